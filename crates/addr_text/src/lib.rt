@@ -1,0 +1,215 @@
+//! Addresses and prefixes, their texts and their numbers.
+#![tactic(auto)]
+
+mod groups;
+mod mac;
+mod number;
+mod scan;
+
+ghost use Rattle.std.specs.Prelude.{◌≡◌, ◌≤◌, ◌-◌, ◌%◌, ◌^◌, ◌==◌, IfSome};
+ghost use Rattle.addr_text.specs.Texts as spec;
+
+use crate::groups::{v4_bits, v6_bits};
+use crate::number::decimal;
+use crate::scan::cut;
+pub use mac::read_mac;
+
+/// An IPv4 or IPv6 address.
+#[derive(Clone, Copy, Debug, PartialEq, Eq)]
+pub enum Address {
+    V4(u32),
+    V6(u128),
+}
+
+/// An IPv4 prefix: the address, and the count of its leading bits that matter.
+#[derive(Clone, Copy, Debug, PartialEq, Eq, PartialOrd, Ord)]
+pub struct Prefix4 {
+    pub bits: u32,
+    pub len: u8,
+}
+
+/// An IPv6 prefix.
+#[derive(Clone, Copy, Debug, PartialEq, Eq, PartialOrd, Ord)]
+pub struct Prefix6 {
+    pub bits: u128,
+    pub len: u8,
+}
+
+/// Why a text isn't read.
+#[derive(Clone, Copy, Debug, PartialEq, Eq)]
+pub enum TextFault {
+    /// The text isn't in the grammar.
+    BadText,
+    /// The text is a prefix, and a bit past its length is set.
+    HostBits,
+}
+
+/// Reads an IPv4 address, `/` and a length of 0 to 32.
+#[tactic(auto, unfolding(crate::specs::Texts::v4_prefix))]
+pub fn read_v4_prefix(text: &str) -> Result<Prefix4, TextFault>
+    ensures { result ≡ spec.v4_prefix text.now }
+{
+    let Some((bits, len)) = v4_slashed(text.as_bytes()) else {
+        return Err(TextFault::BadText);
+    };
+    if bits as u64 % (1 << (32 - len)) == 0 {
+        Ok(Prefix4 {
+            bits,
+            len: len as u8,
+        })
+    } else {
+        Err(TextFault::HostBits)
+    }
+}
+
+/// Reads an IPv6 address, `/` and a length of 0 to 128.
+#[tactic(auto, unfolding(crate::specs::Texts::v6_prefix))]
+pub fn read_v6_prefix(text: &str) -> Result<Prefix6, TextFault>
+    ensures { result ≡ spec.v6_prefix text.now }
+{
+    let Some((bits, len)) = v6_slashed(text.as_bytes()) else {
+        return Err(TextFault::BadText);
+    };
+    if is_clear_v6(bits, len) {
+        Ok(Prefix6 {
+            bits,
+            len: len as u8,
+        })
+    } else {
+        Err(TextFault::HostBits)
+    }
+}
+
+/// Reads an IPv4 or IPv6 address. Its only fault is `BadText`.
+#[tactic(auto, unfolding(crate::specs::Texts::address))]
+pub fn read_addr(text: &str) -> Result<Address, TextFault>
+    ensures { result ≡ spec.address text.now }
+{
+    let text = text.as_bytes();
+    if let Some(bits) = v4_bits(text) {
+        return Ok(Address::V4(bits));
+    }
+    match v6_bits(text) {
+        None => Err(TextFault::BadText),
+        Some(bits) => Ok(Address::V6(bits)),
+    }
+}
+
+#[tactic(auto, using(crate::proofs::Scanning::slashed_more))]
+fn v4_slashed(text: &[u8]) -> Option<(u32, u32)>
+    ensures value { result ≡ spec.slashed spec.v4_bits 32 (spec.parts 47 text.now) }
+    ensures len { IfSome result (λ p. p.1 ≤ 32) }
+{
+    let (front, rest) = cut(text, b'/')?;
+    if let Some(_) = cut(rest, b'/') {
+        return None;
+    }
+    let bits = v4_bits(front)?;
+    let len = decimal(rest, 32)?;
+    Some((bits, len))
+}
+
+#[tactic(auto, using(crate::proofs::Scanning::slashed_more))]
+fn v6_slashed(text: &[u8]) -> Option<(u128, u32)>
+    ensures value { result ≡ spec.slashed spec.v6_bits 128 (spec.parts 47 text.now) }
+    ensures len { IfSome result (λ p. p.1 ≤ 128) }
+{
+    let (front, rest) = cut(text, b'/')?;
+    if let Some(_) = cut(rest, b'/') {
+        return None;
+    }
+    let bits = v6_bits(front)?;
+    let len = decimal(rest, 128)?;
+    Some((bits, len))
+}
+
+// Whether no bit past the length is set.
+fn is_clear_v6(bits: u128, len: u32) -> bool
+    requires { len ≤ 128 }
+    ensures { result ≡ (bits % 2 ^ (128 - len) == 0) }
+{
+    if len == 0 {
+        bits == 0
+    } else {
+        bits % (1 << (128 - len)) == 0
+    }
+}
+
+#[cfg(test)]
+mod tests {
+    use super::*;
+    use std::test::Fail;
+
+    #[test]
+    fn reads_texts(rt: HostRuntime) -> Result<(), Fail> {
+        assert_eq!(rt;
+            read_v6_prefix("2001:DB8:0:0::/32"),
+            Ok(Prefix6 {
+                bits: 0x20010db8 << 96,
+                len: 32
+            })
+        );
+        assert_eq!(rt; read_v6_prefix("::/0"), Ok(Prefix6 { bits: 0, len: 0 }));
+        assert_eq!(rt; read_v6_prefix("2001:db8::1/64"), Err(TextFault::HostBits));
+        for text in [
+            "1::2::3/128",
+            "1:2:3:4:5:6:7:8::/128",
+            "12345::/128",
+            "::/0128",
+            ":1::/128",
+            "1:::2/128",
+            "::",
+        ] {
+            assert_eq!(rt; read_v6_prefix(text), Err(TextFault::BadText), "{text}");
+        }
+        assert_eq!(rt;
+            read_v4_prefix("0.0.0.0/0"),
+            Ok(Prefix4 { bits: 0, len: 0 })
+        );
+        assert_eq!(rt;
+            read_v4_prefix("198.51.100.0/24"),
+            Ok(Prefix4 {
+                bits: 0xc6336400,
+                len: 24
+            })
+        );
+        assert_eq!(rt; read_v4_prefix("198.51.100.1/24"), Err(TextFault::HostBits));
+        for text in [
+            "198.51.100.01/32",
+            "198.51.100/24",
+            "1.2.3.4.5/8",
+            "256.0.0.0/8",
+            "1.2.3.4/33",
+            "1.2.3.4",
+            "1.2.3.4/8/8",
+            "",
+        ] {
+            assert_eq!(rt; read_v4_prefix(text), Err(TextFault::BadText), "{text}");
+        }
+        assert_eq!(rt;
+            read_addr("::ffff:192.0.2.1"),
+            Ok(Address::V6(0xffffc0000201))
+        );
+        assert_eq!(rt; read_addr("192.0.2.1"), Ok(Address::V4(0xc0000201)));
+        assert_eq!(rt;
+            read_addr("1:2:3:4:5:6:7::"),
+            Ok(Address::V6(0x0001_0002_0003_0004_0005_0006_0007_0000))
+        );
+        for text in [
+            "192.0.2.1::",
+            "1:2:3:4:5:6:7",
+            "1:2:3:4:5:6:7:1.2.3.4",
+            "g::",
+            "1:",
+            "192.0.2.1:1::",
+        ] {
+            assert_eq!(rt; read_addr(text), Err(TextFault::BadText), "{text}");
+        }
+        assert_eq!(rt;
+            read_mac("00:1b:2C:3d:4E:ff"),
+            Some([0, 0x1b, 0x2c, 0x3d, 0x4e, 0xff])
+        );
+        assert_eq!(rt; read_mac("00:1b:2c:3d:4e"), None);
+        Ok(())
+    }
+}

@@ -1,0 +1,43 @@
+-- The one spelling of a ModifyResponse: the fields in the order of their table, no number that is 0, each embedded
+-- message that is set (Protocol Buffers encoding).
+use Rattle.std.specs.Prelude.{ℕ, ◌/◌, ◌%◌, ◌^◌, List, [], ◌∷◌, ◌++◌, Option, Some, None, ◌==◌, if◌then◌else◌}
+use Rattle.std.specs.List.{flat_map}
+use Rattle.std.specs.Option.{option_map_or}
+use Rattle.std.specs.Int.{w64, cast_unsigned}
+use Rattle.proto_wire.specs.Written.{uint_field, bytes_field}
+use Rattle.schema_numbers.specs.Numbers.{Numbers, field_of}
+use Rattle.schema_numbers.specs.declared.names.FieldName.TheVariants as field
+use Rattle.gribi_messages.specs.declared.response.AftResult.{AftResult}
+use Rattle.gribi_messages.specs.declared.response.ModifyResponse.{ModifyResponse}
+
+-- a number that is 0 is left out
+unfoldable pub number_field : ℕ → ℕ → List ℕ
+number_field number value = if value == 0 then [] else uint_field number value
+
+-- the moment is written as its u64 in two's complement
+unfoldable pub result_bytes : Numbers → AftResult → List ℕ
+result_bytes n r =
+    number_field (field_of n field.AftResultId) r.id
+    ++ number_field (field_of n field.AftResultStatus) r.status
+    ++ number_field (field_of n field.AftResultTimestamp) (cast_unsigned w64 r.timestamp)
+    ++ number_field (field_of n field.AftResultReason) r.reason
+
+unfoldable pub uint128_bytes : Numbers → ℕ → List ℕ
+uint128_bytes n value =
+    number_field (field_of n field.Uint128High) (value / 2 ^ 64) ++ number_field (field_of n field.Uint128Low) (value % 2 ^ 64)
+
+unfoldable pub result_field : Numbers → AftResult → List ℕ
+result_field n r = bytes_field (field_of n field.ModifyResponseResult) (result_bytes n r)
+
+unfoldable pub params_field : Numbers → ℕ → List ℕ
+params_field n status =
+    bytes_field (field_of n field.ModifyResponseSessionParamsResult) (number_field (field_of n field.SessionParametersResultStatus) status)
+
+unfoldable pub election_field : Numbers → ℕ → List ℕ
+election_field n id = bytes_field (field_of n field.ModifyResponseElectionId) (uint128_bytes n id)
+
+unfoldable pub response_bytes : Numbers → ModifyResponse → List ℕ
+response_bytes n r =
+    flat_map (result_field n) r.results
+    ++ option_map_or (params_field n) r.params []
+    ++ option_map_or (election_field n) r.election []

@@ -1,0 +1,243 @@
+ghost use Rattle.std.specs.Prelude.{◌≡◌, ◌++◌, ◌+◌, ◌*◌, ◌≤◌, [], IfOk, OnOk, OnErr, length};
+ghost use Rattle.std.specs.Option.{option_map_or};
+ghost use Rattle.std.specs.List.{flat_map};
+ghost use Rattle.proto_wire.specs.Written.{varint};
+ghost use Rattle.gribi_messages.specs.Response.{number_field, result_bytes, result_field, params_field, election_field, response_bytes};
+
+use crate::lists::AftResults;
+use crate::sizes::number_size;
+use proto_wire::{write_uint, write_varint};
+use schema_numbers::{FieldName, Numbering};
+use std::alloc::{AllocError, Global};
+
+/// What became of an operation: its id, its status as the number on the wire, the moment in nanoseconds, and the
+/// reason of a failure.
+#[derive(Clone, Copy, Debug, PartialEq, Eq)]
+pub struct AftResult {
+    pub id: u64,
+    pub status: u64,
+    pub timestamp: i64,
+    pub reason: u64,
+}
+
+/// An answer of a Modify call. `params` is the status of the session parameters, as its number on the wire.
+#[derive(Debug, Drop)]
+pub struct ModifyResponse {
+    pub results: AftResults,
+    pub params: Option<u64>,
+    pub election: Option<u128>,
+}
+
+// A number that is 0 is left out.
+#[tactic(auto, unfolding(crate::specs::Response::number_field))]
+fn write_number(number: u32, value: u64, out: &mut Vec<u8>) -> Result<(), AllocError>
+    ensures ok { OnOk result (out.new.items ≡ out.old.items ++ number_field number value) }
+    ensures err { OnErr result (out.new.items ≡ out.old.items) }
+{
+    if value == 0 {
+        Ok(())
+    } else {
+        write_uint(number, value, out)
+    }
+}
+
+// Two numbers, one behind the other.
+fn write_two(
+    number: u32,
+    value: u64,
+    next_number: u32,
+    next_value: u64,
+    out: &mut Vec<u8>,
+) -> Result<(), AllocError>
+    ensures ok { OnOk result (out.new.items ≡ out.old.items ++ number_field number value ++ number_field next_number next_value) }
+    ensures err { OnErr result (out.new.items ≡ out.old.items) }
+{
+    let before = out.len();
+    write_number(number, value, out)?;
+    if write_number(next_number, next_value, out).is_err() {
+        out.truncate(before);
+        return Err(AllocError);
+    }
+    Ok(())
+}
+
+// What stands before the bytes of an embedded message of this size.
+fn write_head(number: u32, size: usize, out: &mut Vec<u8>) -> Result<(), AllocError>
+    ensures ok { OnOk result (out.new.items ≡ out.old.items ++ varint (number * 8 + 2) ++ varint size) }
+    ensures err { OnErr result (out.new.items ≡ out.old.items) }
+{
+    let before = out.len();
+    write_varint(u64::from(number) * 8 + 2, out)?;
+    if write_varint(size as u64, out).is_err() {
+        out.truncate(before);
+        return Err(AllocError);
+    }
+    Ok(())
+}
+
+#[tactic(auto, unfolding(crate::specs::Response::result_bytes))]
+fn result_size(n: &Numbering, r: &AftResult) -> usize
+    ensures { result ≡ length (result_bytes n.now r.now) }
+{
+    let id = number_size(n.field(FieldName::AftResultId), r.id);
+    let status = number_size(n.field(FieldName::AftResultStatus), r.status);
+    let timestamp = number_size(
+        n.field(FieldName::AftResultTimestamp),
+        r.timestamp.cast_unsigned(),
+    );
+    let reason = number_size(n.field(FieldName::AftResultReason), r.reason);
+    id + status + timestamp + reason
+}
+
+#[tactic(auto, unfolding(crate::specs::Response::result_bytes))]
+fn write_result_numbers(n: &Numbering, r: &AftResult, out: &mut Vec<u8>) -> Result<(), AllocError>
+    ensures ok { OnOk result (out.new.items ≡ out.old.items ++ result_bytes n.now r.now) }
+    ensures err { OnErr result (out.new.items ≡ out.old.items) }
+{
+    let before = out.len();
+    let timestamp = r.timestamp.cast_unsigned();
+    write_two(
+        n.field(FieldName::AftResultId),
+        r.id,
+        n.field(FieldName::AftResultStatus),
+        r.status,
+        out,
+    )?;
+    let rest = write_two(
+        n.field(FieldName::AftResultTimestamp),
+        timestamp,
+        n.field(FieldName::AftResultReason),
+        r.reason,
+        out,
+    );
+    if rest.is_err() {
+        out.truncate(before);
+        return Err(AllocError);
+    }
+    Ok(())
+}
+
+#[tactic(auto, unfolding(crate::specs::Response::result_field))]
+fn write_result(n: &Numbering, r: &AftResult, out: &mut Vec<u8>) -> Result<(), AllocError>
+    ensures ok { OnOk result (out.new.items ≡ out.old.items ++ result_field n.now r.now) }
+    ensures err { OnErr result (out.new.items ≡ out.old.items) }
+{
+    let before = out.len();
+    write_head(
+        n.field(FieldName::ModifyResponseResult),
+        result_size(n, r),
+        out,
+    )?;
+    if write_result_numbers(n, r, out).is_err() {
+        out.truncate(before);
+        return Err(AllocError);
+    }
+    Ok(())
+}
+
+fn write_results(n: &Numbering, results: &[AftResult], out: &mut Vec<u8>) -> Result<(), AllocError>
+    ensures ok { OnOk result (out.new.items ≡ out.old.items ++ flat_map (result_field n.now) results.now) }
+    ensures err { OnErr result (out.new.items ≡ out.old.items) }
+{
+    let before = out.len();
+    for r in results {
+        if write_result(n, r, out).is_err() {
+            out.truncate(before);
+            return Err(AllocError);
+        }
+    }
+    Ok(())
+}
+
+#[tactic(auto, unfolding(crate::specs::Response::params_field))]
+fn write_params(n: &Numbering, status: u64, out: &mut Vec<u8>) -> Result<(), AllocError>
+    ensures ok { OnOk result (out.new.items ≡ out.old.items ++ params_field n.now status) }
+    ensures err { OnErr result (out.new.items ≡ out.old.items) }
+{
+    let before = out.len();
+    let inner = n.field(FieldName::SessionParametersResultStatus);
+    let outer = n.field(FieldName::ModifyResponseSessionParamsResult);
+    write_head(outer, number_size(inner, status), out)?;
+    if write_number(inner, status, out).is_err() {
+        out.truncate(before);
+        return Err(AllocError);
+    }
+    Ok(())
+}
+
+#[tactic(auto, unfolding(crate::specs::Response::election_field, crate::specs::Response::uint128_bytes))]
+fn write_election(n: &Numbering, id: u128, out: &mut Vec<u8>) -> Result<(), AllocError>
+    ensures ok { OnOk result (out.new.items ≡ out.old.items ++ election_field n.now id) }
+    ensures err { OnErr result (out.new.items ≡ out.old.items) }
+{
+    let before = out.len();
+    let high_number = n.field(FieldName::Uint128High);
+    let low_number = n.field(FieldName::Uint128Low);
+    let high = (id / 0x1_0000_0000_0000_0000) as u64;
+    let low = (id % 0x1_0000_0000_0000_0000) as u64;
+    let size = number_size(high_number, high) + number_size(low_number, low);
+    write_head(n.field(FieldName::ModifyResponseElectionId), size, out)?;
+    if write_two(high_number, high, low_number, low, out).is_err() {
+        out.truncate(before);
+        return Err(AllocError);
+    }
+    Ok(())
+}
+
+fn write_params_if(n: &Numbering, params: Option<u64>, out: &mut Vec<u8>) -> Result<(), AllocError>
+    ensures ok { OnOk result (out.new.items ≡ out.old.items ++ option_map_or (params_field n.now) params []) }
+    ensures err { OnErr result (out.new.items ≡ out.old.items) }
+{
+    match params {
+        None => Ok(()),
+        Some(status) => write_params(n, status, out),
+    }
+}
+
+fn write_election_if(
+    n: &Numbering,
+    election: Option<u128>,
+    out: &mut Vec<u8>,
+) -> Result<(), AllocError>
+    ensures ok { OnOk result (out.new.items ≡ out.old.items ++ option_map_or (election_field n.now) election []) }
+    ensures err { OnErr result (out.new.items ≡ out.old.items) }
+{
+    match election {
+        None => Ok(()),
+        Some(id) => write_election(n, id, out),
+    }
+}
+
+/// Appends the one spelling of a response. After want of memory `out` is as before.
+#[tactic(auto, unfolding(crate::specs::Response::response_bytes))]
+pub fn append_modify_response(
+    n: &Numbering,
+    r: &ModifyResponse,
+    out: &mut Vec<u8>,
+) -> Result<(), AllocError>
+    ensures ok { OnOk result (out.new.items ≡ out.old.items ++ response_bytes n.now r.now) }
+    ensures err { OnErr result (out.new.items ≡ out.old.items) }
+{
+    let before = out.len();
+    write_results(n, r.results.as_slice(), out)?;
+    if write_params_if(n, r.params, out).is_err()
+        || write_election_if(n, r.election, out).is_err()
+    {
+        out.truncate(before);
+        return Err(AllocError);
+    }
+    Ok(())
+}
+
+/// The one spelling of a response, or want of memory.
+pub fn encode_modify_response(
+    alloc: Global,
+    n: &Numbering,
+    r: &ModifyResponse,
+) -> Result<Vec<u8>, AllocError>
+    ensures { IfOk result (λ bytes. bytes.items ≡ response_bytes n.now r.now) }
+{
+    let mut out = Vec::new(alloc);
+    append_modify_response(n, r, &mut out)?;
+    Ok(out)
+}

@@ -1,0 +1,11 @@
+//! The program: words, bytes in, bytes out, a status.
+#![tactic(auto)]
+
+mod adapters;
+mod top;
+
+pub use adapters::{Reading, Writing};
+pub use top::gribi_main;
+
+#[cfg(test)]
+mod tests;

@@ -1,0 +1,5 @@
+pub mod Fronts
+pub mod Streams
+pub mod Whole
+pub mod Leading
+pub mod Again

@@ -1,0 +1,91 @@
+ghost use Rattle.std.specs.Prelude.{◌≡◌, ◌++◌, ◌↔◌, [], IsTrue, OnOk, OnErr};
+
+use crate::front::{Front, front_of};
+use bytes::{Bytes, BytesMut};
+use std::alloc::{AllocError, Global};
+use std::marker::Model;
+
+/// What a cutter gives next.
+#[derive(Drop)]
+pub enum Cut {
+    /// The bytes of a whole message, without its flag and length.
+    Message(Bytes),
+    /// The bytes that are held are less than a whole message.
+    NeedMore,
+    /// The next flag byte isn't 0. From then on it is the answer, whatever is fed.
+    Compressed,
+    /// The next flag byte is 0, and the length is above the limit. From then on it is the answer.
+    TooLong,
+    /// There was no memory for a message, which is given by a later call.
+    NoMemory,
+}
+
+/// Cuts a stream that comes in pieces into messages.
+#[derive(Drop)]
+pub struct MessageCutter {
+    limit: u32,
+    held: BytesMut,
+}
+
+impl Model for MessageCutter {
+    ghost use Rattle.grpc_framing.specs.Held.{Held};
+
+    ghost Value = { Held };
+
+    ghost view = { λ c. record { limit = c.limit; held = c.held.items } };
+}
+
+impl MessageCutter {
+    ghost use Rattle.grpc_framing.specs.Cuts.{Cuts, Leads};
+
+    /// A cutter of a stream whose messages have at most `limit` bytes.
+    pub fn new(alloc: Global, limit: u32) -> MessageCutter
+        ensures { result ≡ record { limit = limit; held = [] } }
+    {
+        MessageCutter {
+            limit,
+            held: BytesMut::new(alloc),
+        }
+    }
+
+    /// Takes the next piece of the stream. Without memory nothing changes.
+    pub fn feed(&mut self, piece: Bytes) -> Result<(), AllocError>
+        ensures ok { OnOk result (self.new ≡ record self.old { held = self.old.held ++ piece }) }
+        ensures err { OnErr result (self.new ≡ self.old) }
+    {
+        self.held.extend_from_slice(piece.as_slice())
+    }
+
+    fn cut_front(&mut self) -> Cut
+        ensures { Cuts self.old result self.new }
+    {
+        match front_of(self.limit, self.held.as_slice()) {
+            Front::Message(size) => match self.held.freeze_to(5 + size) {
+                Ok(mut message) => {
+                    message.advance(5);
+                    Cut::Message(message)
+                }
+                Err(_) => Cut::NoMemory,
+            },
+            Front::NeedMore => Cut::NeedMore,
+            Front::Compressed => Cut::Compressed,
+            Front::TooLong => Cut::TooLong,
+        }
+    }
+
+    /// Gives the next message. After `NeedMore` more can be fed, and after `NoMemory` the call can be
+    /// made again. Nothing but a message is taken from what is held.
+    pub fn next(&mut self) -> Cut
+        ensures exact { Cuts self.old result self.new }
+        ensures leads { Leads self.old result self.new }
+    {
+        self.cut_front()
+    }
+
+    /// Whether no part of a message is held.
+    pub fn is_between(&self) -> bool
+        ensures { IsTrue result ↔ (self.now.held ≡ []) }
+    {
+        self.held.is_empty()
+    }
+}

@@ -1,0 +1,4 @@
+pub mod Layouts
+pub mod Prefixes
+pub mod Streams
+pub mod Uniqueness

@@ -1,0 +1,4 @@
+pub mod Laws
+pub mod Layout
+pub mod Reader
+pub mod Stream

@@ -1,0 +1,10 @@
+pub mod Answers
+pub mod Decoder
+pub mod Entries
+pub mod Laws
+pub mod Marks
+pub mod Progress
+pub mod Reading
+pub mod Room
+pub mod StaticTable
+pub mod Writing

@@ -1,0 +1,89 @@
+//! The encoder of header blocks.
+ghost use Rattle.std.specs.Prelude.{◌≡◌, ◌≤◌, ◌++◌, List, ℕ, sum_by, IfOk, OnOk, OnErr};
+ghost use Rattle.hpack_tables.specs.Room.{size_of};
+ghost use Rattle.hpack_tables.specs.Writing.{Encoder, Writes, fresh, limited};
+
+use crate::fields::Fields;
+use crate::table::Table;
+use std::alloc::{AllocError, Global};
+use std::marker::Model;
+
+mod field_texts;
+mod integers;
+mod strings;
+
+/// How an encoder writes fields.
+#[derive(Clone, Copy, Debug, PartialEq, Eq)]
+pub enum Style {
+    /// Static indexes, literals without indexing and plain strings.
+    Plain,
+    /// Static and dynamic indexes, literals with incremental indexing, and strings with Huffman
+    /// where that is shorter.
+    Indexed,
+}
+
+/// Writes header blocks, one after another, over one table.
+#[derive(Drop)]
+pub struct HeaderEncoder {
+    alloc: Global,
+    style: Style,
+    table: Table,
+    is_lowered: bool,
+}
+
+impl Model for HeaderEncoder {
+    ghost use Rattle.hpack_tables.specs.Writing.{Encoder};
+
+    ghost Value = { Encoder };
+
+    ghost view = { λ e. record { style = e.style; entries = e.table.items; max = e.table.max; is_lowered = e.is_lowered } };
+}
+
+impl HeaderEncoder {
+    /// An encoder with an empty table of 4,096 bytes.
+    pub fn new(alloc: Global, style: Style) -> Result<HeaderEncoder, AllocError>
+        ensures { IfOk result (λ e. e ≡ fresh style) }
+    {
+        Ok(HeaderEncoder {
+            alloc,
+            style,
+            table: Table::new(alloc, 4096),
+            is_lowered: false,
+        })
+    }
+
+    /// Tells the encoder that the peer announced a table of so many bytes. Where that is less than
+    /// the table has, the table becomes so small, and the next block says so; it is never raised
+    /// again. Takes no memory.
+    pub fn limit(&mut self, size: u32)
+        ensures { self.new ≡ limited size self.old }
+    {
+        if size < self.table.max() {
+            self.table.resize(size);
+            self.is_lowered = true;
+        }
+    }
+
+    /// Adds the block of the fields. Fails only for want of memory, and then nothing has changed.
+    pub fn block(&mut self, fields: &Fields, out: &mut Vec<u8>) -> Result<(), AllocError>
+        requires { sum_by size_of fields.now ≤ 65536 }
+        ensures ok { OnOk result ((text : List ℕ) × (out.new.items ≡ out.old.items ++ text)
+            × Writes self.old fields.now text self.new) }
+        ensures err { OnErr result ((out.new.items ≡ out.old.items) × (self.new ≡ self.old)) }
+    {
+        let mut table = self.table.share(self.alloc)?;
+        let mut text = Vec::new(self.alloc);
+        field_texts::put_update(self.is_lowered, table.max(), &mut text)?;
+        field_texts::put_fields(
+            self.alloc,
+            self.style,
+            &mut table,
+            fields.as_slice(),
+            &mut text,
+        )?;
+        out.extend_from_slice(text.as_slice())?;
+        self.table = table;
+        self.is_lowered = false;
+        Ok(())
+    }
+}

@@ -1,0 +1,4 @@
+pub mod Schema
+pub mod Legal
+pub mod Words
+pub mod Chosen

@@ -1,0 +1,157 @@
+ghost use Rattle.std.specs.Prelude.{◌≡◌, ◌++◌, [], IfOk, unwrap_or};
+ghost use Rattle.std.specs.Option.{option_map, option_copied};
+ghost use Rattle.proto_wire.specs.Wire.{value_of};
+ghost use Rattle.proto_schema.specs.Words.{number_in, piece_in, member_in, number_at as last_number, text_at as last_text, message_at as joined_at, chosen_at as chosen_member, one_more};
+ghost use Rattle.proto_schema.specs.Chosen.{chosen_seen};
+
+use crate::joined::Joined;
+use proto_wire::{Field, FieldReader, Next, WireValue};
+use std::alloc::{AllocError, Global};
+
+/// The number that this field gives the wanted one.
+pub fn number_of(wanted: u32, field: &Field<'_>) -> Option<u64>
+    ensures { result ≡ number_in wanted field.now.number (value_of field.now.value) }
+{
+    match field.value {
+        WireValue::Varint(value) if field.number == wanted => Some(value),
+        _ => None,
+    }
+}
+
+/// The bytes that this field gives the wanted one.
+pub fn piece_of<'a>(wanted: u32, field: &Field<'a>) -> Option<&'a [u8]>
+    ensures { option_copied result ≡ piece_in wanted field.now.number (value_of field.now.value) }
+{
+    match field.value {
+        WireValue::Bytes(bytes) if field.number == wanted => Some(bytes),
+        _ => None,
+    }
+}
+
+/// The bytes that this field gives one of the members of a oneof.
+pub fn member_of<'a>(among: &[u32], field: &Field<'a>) -> Option<&'a [u8]>
+    ensures { option_map (λ b. (field.now.number, b.now)) result ≡ member_in among.now field.now.number (value_of field.now.value) }
+{
+    match field.value {
+        WireValue::Bytes(bytes) if among.contains(&field.number) => Some(bytes),
+        _ => None,
+    }
+}
+
+/// The last number of a field, or 0.
+#[tactic(auto, unfolding(crate::specs::Words::number_at))]
+pub fn number_at(wanted: u32, bytes: &[u8]) -> u64
+    ensures { result ≡ last_number wanted bytes.now }
+{
+    let mut last = None;
+    let mut reader = FieldReader::new(bytes);
+    loop {
+        match reader.next() {
+            Next::Field(field) => last = number_of(wanted, &field).or(last),
+            _ => return last.unwrap_or(0),
+        }
+    }
+}
+
+/// The last bytes of a field, or none.
+#[tactic(auto, unfolding(crate::specs::Words::text_at))]
+pub fn text_at(wanted: u32, bytes: &[u8]) -> &[u8]
+    ensures { result.now ≡ last_text wanted bytes.now }
+{
+    let mut last = None;
+    let mut reader = FieldReader::new(bytes);
+    loop {
+        match reader.next() {
+            Next::Field(field) => last = piece_of(wanted, &field).or(last),
+            _ => return last.unwrap_or(&[]),
+        }
+    }
+}
+
+/// The pieces so far, and one more behind them.
+pub fn join<'a>(
+    alloc: Global,
+    before: Option<Joined<'a>>,
+    piece: &'a [u8],
+) -> Result<Joined<'a>, AllocError>
+    ensures { IfOk result (λ all. all ≡ unwrap_or before.entry [] ++ piece.now) }
+{
+    match before {
+        Some(all) => all.with(alloc, piece),
+        None => Ok(Joined::new(piece)),
+    }
+}
+
+/// An embedded message: its occurrences, one behind the other.
+#[tactic(auto, unfolding(crate::specs::Words::message_at))]
+pub fn message_at<'a>(
+    alloc: Global,
+    wanted: u32,
+    bytes: &'a [u8],
+) -> Result<Option<Joined<'a>>, AllocError>
+    ensures { IfOk result (λ all. all ≡ joined_at wanted bytes.now) }
+{
+    let mut all = None;
+    let mut reader = FieldReader::new(bytes);
+    loop {
+        match reader.next() {
+            Next::Field(field) => {
+                if let Some(piece) = piece_of(wanted, &field) {
+                    all = Some(join(alloc, all, piece)?);
+                }
+            }
+            _ => return Ok(all),
+        }
+    }
+}
+
+/// A member of a oneof, and its bytes.
+#[derive(Drop)]
+pub struct Chosen<'a> {
+    pub number: u32,
+    pub bytes: Joined<'a>,
+}
+
+/// The members so far, and one more occurrence: behind those of the same member, in place of another one.
+pub fn choose<'a>(
+    alloc: Global,
+    before: Option<Chosen<'a>>,
+    number: u32,
+    piece: &'a [u8],
+) -> Result<Chosen<'a>, AllocError>
+    ensures { IfOk result (λ now. chosen_seen now ≡ one_more (option_map chosen_seen before.entry) (number, piece.now)) }
+{
+    if let Some(chosen) = before {
+        if chosen.number == number {
+            let bytes = chosen.bytes.with(alloc, piece)?;
+            return Ok(Chosen { number, bytes });
+        }
+    }
+    Ok(Chosen {
+        number,
+        bytes: Joined::new(piece),
+    })
+}
+
+/// The last member of a oneof, and its occurrences behind the last one of another member.
+#[tactic(auto, unfolding(crate::specs::Words::chosen_at))]
+pub fn chosen_at<'a>(
+    alloc: Global,
+    among: &[u32],
+    bytes: &'a [u8],
+) -> Result<Option<Chosen<'a>>, AllocError>
+    ensures { IfOk result (λ found. option_map chosen_seen found ≡ chosen_member among.now bytes.now) }
+{
+    let mut found = None;
+    let mut reader = FieldReader::new(bytes);
+    loop {
+        match reader.next() {
+            Next::Field(field) => {
+                if let Some(piece) = member_of(among, &field) {
+                    found = Some(choose(alloc, found, field.number, piece)?);
+                }
+            }
+            _ => return Ok(found),
+        }
+    }
+}

@@ -1,0 +1,15 @@
+//! The fields of a Protocol Buffers message, read and written.
+#![tactic(auto)]
+
+mod laws;
+mod reader;
+mod writer;
+
+pub use laws::{
+    field_is_read_again, message_is_read_again, varint_is_read_again, varint_is_shortest,
+};
+pub use reader::{Field, FieldReader, Next, WireFault, WireValue};
+pub use writer::{write_bytes, write_uint, write_varint};
+
+#[cfg(test)]
+mod tests;

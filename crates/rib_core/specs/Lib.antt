@@ -1,0 +1,4 @@
+pub mod Table
+pub mod History
+pub mod Plain
+pub mod Stands

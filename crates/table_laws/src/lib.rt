@@ -1,0 +1,23 @@
+//! Laws of every lawful history of the table. Each is the contract of a function that does nothing: to call it is
+//! to cite the law.
+#![tactic(auto)]
+
+mod election;
+mod examples;
+mod jobs;
+mod rib;
+
+pub use election::{highest_never_falls, latest_announcer_is_primary, lower_id_is_not_primary};
+pub use examples::{
+    a_chain_has_four_groups, a_device_fault_skips_what_refers, a_flush_leaves_what_others_reach,
+    a_flush_needs_its_id, a_full_table_takes_no_new_key, a_halt_is_seen,
+    a_lower_id_loses_the_primary, a_purge_begins_at_the_head,
+    a_removal_waits_for_the_route_that_left, a_session_leaves_once, entries_go_with_their_primary,
+    equal_ids_make_the_latest_primary, parameters_are_refused, references_come_first,
+    refusals_of_the_table, what_changes_nothing_makes_a_job,
+};
+pub use jobs::{jobs_ascend, late_work};
+pub use rib::{
+    chains_are_short, done_is_there, done_where_due, equal_lookups, events_are_lawful,
+    rib_changes_by_these, rib_is_closed, rib_is_in_order,
+};

@@ -1,0 +1,3 @@
+pub mod Lock
+pub mod Seats
+pub mod Passes

@@ -1,0 +1,10 @@
+pub mod Tests
+pub mod TableLemmas
+pub mod ElectionLemmas
+pub mod Inert
+pub mod Lawful
+pub mod LookupLemmas
+pub mod Effects
+pub mod Closed
+pub mod FlushClosed
+pub mod Undone

@@ -1,0 +1,12 @@
+pub mod Completed
+pub mod Election
+pub mod Event
+pub mod Jobs
+pub mod Legal
+pub mod Reply
+pub mod Results
+pub mod Rib
+pub mod Sessions
+pub mod Table
+pub mod Laws
+pub mod Ledger

@@ -1,0 +1,46 @@
+use aft_entries::{Entry, Key};
+
+/// What names a job: the position of the event that made it, and its place among the jobs of that event.
+/// Jobs stand in the order of their numbers.
+#[derive(Clone, Copy, Debug, PartialEq, Eq, PartialOrd, Ord)]
+pub struct JobNumber {
+    pub position: u64,
+    pub index: u64,
+}
+
+/// What a job does to the forwarding table.
+#[derive(Drop)]
+pub enum Work {
+    Install(Entry),
+    Remove(Key),
+}
+
+/// A job for the forwarding table, as a worker is given it.
+#[derive(Drop)]
+pub struct Job {
+    pub number: JobNumber,
+    pub work: Work,
+}
+
+/// What a device did with a job.
+#[derive(Clone, Copy, Debug, PartialEq, Eq)]
+pub enum Verdict {
+    Programmed,
+    DeviceFault,
+}
+
+/// A job as it is made.
+#[derive(Drop)]
+pub struct NewJob {
+    pub job: Job,
+    /// The id of the operation that made it, and 0 in a purge.
+    pub id: u64,
+    /// The session of that operation, and none in a purge.
+    pub owner: Option<u64>,
+    /// Whether the owner wants its result.
+    pub wants: bool,
+    /// The entry that left the table for it.
+    pub displaced: Option<Entry>,
+    /// What the forwarding table will hold.
+    pub copy: Option<Entry>,
+}

@@ -1,0 +1,17 @@
+//! Commands and replies of the table: what sessions, workers and operators ask of it, and what it answers.
+//!
+//! `specs/` has what a history of them means: sessions, the election, the table of entries, the jobs for the
+//! forwarding table, their results, and the reply that is due to each command.
+#![tactic(auto)]
+
+mod command;
+mod job;
+mod params;
+mod reply;
+mod results;
+
+pub use command::{Command, Config, FlushBy, KindAsk, Operation, Which};
+pub use job::{Job, JobNumber, NewJob, Verdict, Work};
+pub use params::{AckType, AskedParams, Params, Persistence, Redundancy};
+pub use reply::Reply;
+pub use results::{Batch, FibResult};
