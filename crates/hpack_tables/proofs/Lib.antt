@@ -4,5 +4,6 @@ pub mod FieldsRead
 pub mod FieldsWritten
 pub mod NameBytes
 pub mod NumbersRead
+pub mod OneReading
 pub mod Places
 pub mod Rooms
