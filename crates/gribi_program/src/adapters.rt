@@ -1,4 +1,8 @@
-ghost use Rattle.std.specs.Prelude.{◌≡◌, ◌≤◌, length};
+ghost use Rattle.std.specs.Prelude.{◌≡◌, ◌≤◌, ◌<◌, length, take};
+ghost use Rattle.std.specs.Io.KnownBytes.{Appends};
+ghost use Rattle.rig_io.specs.Fault.{HasCause, StaysUnless};
+ghost use Rattle.rig_io.specs.Stream.{IsTook, Takes, Grows, IsPlaced, Places};
+ghost use Rattle.gribi_program.specs.Adapters.{Reads, Writes};
 
 use rig_io::{Placed, Sink, Source, Took};
 use std::io::{Read, Write};
@@ -11,7 +15,10 @@ pub struct Reading<R> {
 }
 
 impl<R: Read + Drop> Reading<R> {
-    pub fn new(inner: R) -> Self {
+    /// A source over a reader that has not failed.
+    pub fn new(inner: R) -> Self
+        ensures { (result.inner ≡ inner) × (result.faults ≡ 0) }
+    {
         Reading { inner, faults: 0 }
     }
 }
@@ -25,7 +32,15 @@ impl<R: Read + Drop> Source for Reading<R> {
 
     ghost faults = { λ s. s.faults };
 
-    fn take(&mut self, buffer: &mut [u8]) -> Took {
+    fn take(&mut self, buffer: &mut [u8]) -> Took
+        requires { 0 < length buffer.old }
+        ensures bound { IsTook result (length buffer.new) }
+        ensures bytes { Takes None None result buffer.new }
+        ensures grows { Grows None None result buffer.new }
+        ensures cause { HasCause self.old.faults self.new.faults (result ≡ Took.Failed) }
+        ensures stays { StaysUnless self.old.faults self.new.faults (result ≡ Took.Failed) }
+        ensures reader { Reads (R.remaining self.old.inner) (R.remaining self.new.inner) result buffer.new }
+    {
         match self.inner.read(buffer) {
             Ok(0) => Took::End,
             Ok(count) => Took::Got(count),
@@ -46,7 +61,10 @@ pub struct Writing<W> {
 }
 
 impl<W: Write + Drop> Writing<W> {
-    pub fn new(inner: W) -> Self {
+    /// A sink over a writer that has not failed.
+    pub fn new(inner: W) -> Self
+        ensures { (result.inner ≡ inner) × (result.faults ≡ 0) }
+    {
         Writing { inner, faults: 0 }
     }
 
@@ -54,6 +72,7 @@ impl<W: Write + Drop> Writing<W> {
     fn write_out(&mut self, piece: &[u8]) -> usize
         ensures bound { result ≤ length piece.now }
         ensures same { self.new.faults ≡ self.old.faults }
+        ensures writer { 0 < result → Appends (W.contents self.old.inner) (W.contents self.new.inner) (take result piece.now) }
     {
         match self.inner.write(piece) {
             Ok(count) if self.inner.flush().is_ok() => count,
@@ -69,7 +88,14 @@ impl<W: Write + Drop> Sink for Writing<W> {
 
     ghost faults = { λ s. s.faults };
 
-    fn put(&mut self, piece: &[u8]) -> Placed {
+    fn put(&mut self, piece: &[u8]) -> Placed
+        requires { 0 < length piece.now }
+        ensures bound { IsPlaced result (length piece.now) }
+        ensures bytes { Places None None result piece.now }
+        ensures cause { HasCause self.old.faults self.new.faults (result ≡ Placed.Failed) }
+        ensures stays { StaysUnless self.old.faults self.new.faults (result ≡ Placed.Failed) }
+        ensures writer { Writes (W.contents self.old.inner) (W.contents self.new.inner) result piece.now }
+    {
         let count = self.write_out(piece);
         if count == 0 {
             self.faults = self.faults.saturating_add(1);
