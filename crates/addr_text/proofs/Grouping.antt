@@ -1,5 +1,5 @@
 -- Groups, their count and their number.
-use Rattle.std.proofs.Common.{◌≡◌, ℕ, suc, zero, ◌+◌, ◌*◌, ◌-◌, ◌^◌, ◌<◌, ◌≤◌, Bool, true, false, List, [], ◌∷◌, ◌++◌, Option, Some, None, refl, sym, ap, ◌∙◌, fold, length, zero-add, length-append, arith}
+use Rattle.std.proofs.Common.{◌≡◌, ℕ, suc, zero, ◌+◌, ◌*◌, ◌-◌, ◌^◌, ◌<◌, ◌≤◌, Bool, true, false, List, [], ◌∷◌, ◌++◌, Option, Some, None, refl, sym, ap, ◌∙◌, fold, length, zero-add, arith}
 use Rattle.std.specs.Prelude.{option_map, ◌==◌, nat_lt, nat_le, if◌then◌else◌, replicate}
 use Rattle.std.proofs.Math.Nat.{pow-zero, pow-suc, pow-succ', pow-le-pow_right, mul-le-mul_right}
 use Rattle.std.proofs.lemmas.Nat.{pow-add}
@@ -37,7 +37,7 @@ in_base-zeros base (suc k) =
     let none : 0 * base + 0 ≡ 0 = omega arith in
     ap (λ start. fold (λ n d. n * base + d) start (replicate k 0)) none ∙ in_base-zeros base k
 
-length-zeros : (k : ℕ) → length {A = ℕ} (replicate k 0) ≡ k
+pub length-zeros : (k : ℕ) → length {A = ℕ} (replicate k 0) ≡ k
 length-zeros zero = refl
 length-zeros (suc k) = ap (λ n. suc n) (length-zeros k)
 

@@ -1,11 +1,11 @@
 -- A text that is gone through from its front.
-use Rattle.std.proofs.Common.{◌≡◌, ℕ, suc, zero, ◌+◌, ◌*◌, ◌-◌, ◌^◌, ◌<◌, ◌≤◌, Bool, true, false, List, [], ◌∷◌, ◌++◌, Option, Some, None, refl, sym, ap, ◌∙◌, append_assoc, map, fold, length, take, drop, get_or, add-one, drop-cons, arith}
+use Rattle.std.proofs.Common.{◌≡◌, ℕ, suc, zero, ◌+◌, ◌*◌, ◌^◌, ◌<◌, ◌≤◌, Bool, true, false, List, [], ◌∷◌, ◌++◌, Option, Some, None, refl, sym, ap, ◌∙◌, append_assoc, map, fold, length, take, drop, get_or, add-one, drop-cons, arith}
 use Rattle.std.proofs.Math.Nat.{pow-le-pow_right}
 use Rattle.std.proofs.lemmas.List.{take_more, drop_all}
 use Rattle.std.specs.Prelude.{option_map, option_and_then, ◌==◌, ◌&&◌, if◌then◌else◌}
-use Rattle.addr_text.specs.Texts.{in_base, all_of, parts, onto_first, at_gap, behind, hex_digit, digit, quad, six, slashed, groups, and_groups, hextet}
+use Rattle.addr_text.specs.Texts.{in_base, all_of, parts, onto_first, at_gap, behind, quad, six, slashed, groups, and_groups, hextet}
 
-append-nil : {X : Type 0} (xs : List X) → xs ++ [] ≡ xs
+pub append-nil : {X : Type 0} (xs : List X) → xs ++ [] ≡ xs
 append-nil [] = refl
 append-nil (x ∷ xs) = ap (λ ys. x ∷ ys) (append-nil xs)
 

@@ -2,9 +2,14 @@
 #![tactic(auto)]
 
 mod groups;
+mod laws;
 mod mac;
 mod number;
+mod print;
+mod runs;
 mod scan;
+#[cfg(test)]
+mod tests;
 
 ghost use Rattle.std.specs.Prelude.{◌≡◌, ◌≤◌, ◌-◌, ◌%◌, ◌^◌, ◌==◌, IfSome};
 ghost use Rattle.addr_text.specs.Texts as spec;
@@ -12,7 +17,12 @@ ghost use Rattle.addr_text.specs.Texts as spec;
 use crate::groups::{v4_bits, v6_bits};
 use crate::number::decimal;
 use crate::scan::cut;
+pub use laws::{
+    addresses_are_read_again, mac_texts_are_read_again, v4_prefixes_are_read_again,
+    v6_prefixes_are_read_again,
+};
 pub use mac::read_mac;
+pub use print::{print_addr, print_mac, print_v4_prefix, print_v6_prefix};
 
 /// An IPv4 or IPv6 address.
 #[derive(Clone, Copy, Debug, PartialEq, Eq)]
@@ -132,84 +142,5 @@ fn is_clear_v6(bits: u128, len: u32) -> bool
         bits == 0
     } else {
         bits % (1 << (128 - len)) == 0
-    }
-}
-
-#[cfg(test)]
-mod tests {
-    use super::*;
-    use std::test::Fail;
-
-    #[test]
-    fn reads_texts(rt: HostRuntime) -> Result<(), Fail> {
-        assert_eq!(rt;
-            read_v6_prefix("2001:DB8:0:0::/32"),
-            Ok(Prefix6 {
-                bits: 0x20010db8 << 96,
-                len: 32
-            })
-        );
-        assert_eq!(rt; read_v6_prefix("::/0"), Ok(Prefix6 { bits: 0, len: 0 }));
-        assert_eq!(rt; read_v6_prefix("2001:db8::1/64"), Err(TextFault::HostBits));
-        for text in [
-            "1::2::3/128",
-            "1:2:3:4:5:6:7:8::/128",
-            "12345::/128",
-            "::/0128",
-            ":1::/128",
-            "1:::2/128",
-            "::",
-        ] {
-            assert_eq!(rt; read_v6_prefix(text), Err(TextFault::BadText), "{text}");
-        }
-        assert_eq!(rt;
-            read_v4_prefix("0.0.0.0/0"),
-            Ok(Prefix4 { bits: 0, len: 0 })
-        );
-        assert_eq!(rt;
-            read_v4_prefix("198.51.100.0/24"),
-            Ok(Prefix4 {
-                bits: 0xc6336400,
-                len: 24
-            })
-        );
-        assert_eq!(rt; read_v4_prefix("198.51.100.1/24"), Err(TextFault::HostBits));
-        for text in [
-            "198.51.100.01/32",
-            "198.51.100/24",
-            "1.2.3.4.5/8",
-            "256.0.0.0/8",
-            "1.2.3.4/33",
-            "1.2.3.4",
-            "1.2.3.4/8/8",
-            "",
-        ] {
-            assert_eq!(rt; read_v4_prefix(text), Err(TextFault::BadText), "{text}");
-        }
-        assert_eq!(rt;
-            read_addr("::ffff:192.0.2.1"),
-            Ok(Address::V6(0xffffc0000201))
-        );
-        assert_eq!(rt; read_addr("192.0.2.1"), Ok(Address::V4(0xc0000201)));
-        assert_eq!(rt;
-            read_addr("1:2:3:4:5:6:7::"),
-            Ok(Address::V6(0x0001_0002_0003_0004_0005_0006_0007_0000))
-        );
-        for text in [
-            "192.0.2.1::",
-            "1:2:3:4:5:6:7",
-            "1:2:3:4:5:6:7:1.2.3.4",
-            "g::",
-            "1:",
-            "192.0.2.1:1::",
-        ] {
-            assert_eq!(rt; read_addr(text), Err(TextFault::BadText), "{text}");
-        }
-        assert_eq!(rt;
-            read_mac("00:1b:2C:3d:4E:ff"),
-            Some([0, 0x1b, 0x2c, 0x3d, 0x4e, 0xff])
-        );
-        assert_eq!(rt; read_mac("00:1b:2c:3d:4e"), None);
-        Ok(())
     }
 }

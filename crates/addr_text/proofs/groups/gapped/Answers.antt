@@ -1,4 +1,4 @@
-use Rattle.std.proofs.Common.{◌≡◌, ℕ, ◌+◌, ◌<◌, Some, sym, ap, ◌∙◌, true, false, arith}
+use Rattle.std.proofs.Common.{ℕ, ◌+◌, Some, sym, ap, ◌∙◌, true, false, arith}
 use Rattle.addr_text.specs.Texts as spec
 use Rattle.addr_text.proofs.Grouping.{gapped_over, gapped_few, sum_fits}
 use Rattle.addr_text.proofs.groups.gapped.Goals as goal

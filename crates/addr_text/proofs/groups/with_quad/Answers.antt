@@ -1,4 +1,4 @@
-use Rattle.std.proofs.Common.{◌<◌, ◌+◌, ◌*◌, ◌^◌, arith}
+use Rattle.std.proofs.Common.{◌+◌, arith}
 use Rattle.addr_text.proofs.Grouping.{quad_small, power_fits}
 use Rattle.addr_text.proofs.groups.with_quad.Goals as goal
 

@@ -1,4 +1,4 @@
-use Rattle.std.proofs.Common.{◌≡◌, ◌≤◌, ◌+◌, ◌∙◌, ap, take, length, arith}
+use Rattle.std.proofs.Common.{◌≤◌, ◌+◌, ◌∙◌, ap, take, length, arith}
 use Rattle.addr_text.proofs.Scanning.{behind_all, gap_end}
 use Rattle.addr_text.proofs.scan.gap.Goals as goal
 
