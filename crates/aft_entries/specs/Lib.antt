@@ -1,6 +1,9 @@
+pub mod Checked
 pub mod MemberOrder
+pub mod Naming
 pub mod Operations
 pub mod Order
 pub mod References
-pub mod Shapes
 pub mod Same
+pub mod Shapes
+pub mod Steps

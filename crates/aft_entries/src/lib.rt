@@ -1,15 +1,24 @@
 //! Entries of the forwarding tables: keys, payloads, and what an operation asks.
 #![tactic(auto)]
 
+mod check;
 mod entry;
+mod instances;
 mod key;
+mod laws;
 mod lists;
 mod operation;
 
+pub use check::check_entry;
 pub use entry::{Entry, GroupPayload, HopPayload, Payload, RoutePayload, refers, refs};
+pub use instances::{Instances, InstancesFault};
 pub use key::{Key, KeyName, Kind, shard};
+pub use laws::{members_are_sorted, same_payloads_are_equal};
 pub use lists::{Keys, Labels, Member, Members, Name};
 pub use operation::{
     Act, Ask, Op, RawEntry, RawGroup, RawHop, RawLabels, RawMembers, RawOperation, RawRoute,
     Reason, Row, Rows,
 };
+
+#[cfg(test)]
+mod tests;

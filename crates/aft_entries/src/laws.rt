@@ -1,0 +1,18 @@
+//! Laws of payloads. Each is the contract of a function that does nothing: to call it is to cite the law.
+ghost use Rattle.std.specs.Prelude.{◌≡◌, ◌↔◌, true, List, IsPermutation};
+ghost use Rattle.aft_entries.specs.MemberOrder.{is_in_order, by_index};
+ghost use Rattle.aft_entries.specs.declared.entry.Payload.{Payload};
+ghost use Rattle.aft_entries.specs.declared.lists.Member.{Member};
+ghost use Rattle.aft_entries.specs.Same.{same_payload};
+
+/// Payloads are the same exactly where they are equal.
+pub fn same_payloads_are_equal()
+    ensures { (one other : Payload) → (same_payload one other ≡ true) ↔ (one ≡ other) }
+{}
+
+/// The members of a group in order of their index are the same members, and no member stands before one of a lower
+/// index.
+pub fn members_are_sorted()
+    ensures same { (members : List Member) → IsPermutation members (by_index members) }
+    ensures order { (members : List Member) → is_in_order (by_index members) ≡ true }
+{}
