@@ -1,5 +1,5 @@
 -- How a reader goes on standing for what it was fed and what it gave.
-use Rattle.std.proofs.Common.{◌≡◌, ℕ, zero, suc, ◌+◌, ◌-◌, ◌^◌, ◌<◌, ◌≤◌, List, [], ◌∷◌, ◌++◌, length, take, drop, min, Option, Some, None, refl, sym, ap, subst, inl, inr, ◌∙◌, arith, ◌⊎◌}
+use Rattle.std.proofs.Common.{◌≡◌, ℕ, ◌+◌, ◌<◌, ◌≤◌, List, [], ◌∷◌, ◌++◌, length, drop, Option, Some, None, refl, sym, ap, subst, inl, inr, ◌∙◌, arith}
 use Rattle.std.specs.Prelude.{Bool, IsTrue, ◌↔◌, MatchOption, sum_by}
 use Rattle.std.proofs.lemmas.List.{take-append-le, drop-append-le, length-append, length-drop, drop_all, nil_from_length}
 use Rattle.std.proofs.lemmas.List.Sums.{sum_by_push, sum_by-cons}
@@ -10,10 +10,10 @@ use Rattle.h2_frames.specs.declared.reader.FrameNext.{FrameNext}
 use Rattle.h2_frames.specs.declared.reader.FrameNext.TheVariants as Says
 use Rattle.h2_frames.specs.declared.reader.Refusal.{Refusal}
 use Rattle.h2_frames.specs.declared.reader.Refusal.TheVariants as Was
-use Rattle.h2_frames.specs.Layout.{size_of, IsFrame, IsPartial, IsTooLong, said_length}
+use Rattle.h2_frames.specs.Layout.{size_of, IsFrame, IsPartial, IsTooLong}
 use Rattle.h2_frames.specs.Reader.{Reader}
 use Rattle.h2_frames.proofs.Prefixes.{take_nothing, Follows-cut, Follows-append, Follows-all, Follows-self}
-use Rattle.h2_frames.specs.Stream.{Follows, Reads, Frames, TakesFrame, Gives, Waits, Refuses, Breaks, IsBroken, IsFront, Stands, StandsAlive, StandsDead, StandsAfter, RunsOut, Answers, AreWhole, CarriesNext, CarriesPiece, EndsBetween, StaysDead, told, fed, place_at, place_after}
+use Rattle.h2_frames.specs.Stream.{Follows, Reads, Frames, TakesFrame, Gives, Breaks, IsBroken, IsFront, Stands, StandsAlive, StandsDead, Answers, AreWhole, CarriesNext, CarriesPiece, EndsBetween, StaysDead, told, fed, place_at, place_after}
 
 -- ---- frames and more bytes
 

@@ -1,9 +1,9 @@
 -- Bytes have one list of frames.
-use Rattle.std.proofs.Common.{◌≡◌, ℕ, zero, suc, ◌+◌, ◌-◌, ◌*◌, ◌/◌, ◌%◌, ◌^◌, ◌<◌, ◌≤◌, ◌⊎◌, List, [], ◌∷◌, ◌++◌, length, get_or, take, drop, refl, sym, ap, subst, inl, inr, ◌∙◌, arith}
+use Rattle.std.proofs.Common.{◌≡◌, ℕ, ◌+◌, ◌*◌, ◌%◌, ◌^◌, ◌<◌, ◌≤◌, ◌⊎◌, List, [], ◌∷◌, ◌++◌, length, get_or, take, drop, refl, sym, ap, subst, inl, inr, ◌∙◌, arith}
 use Rattle.std.specs.Int.{w32, from_be_bytes, to_be_bytes}
 use Rattle.std.specs.List.{flat_map}
 use Rattle.std.specs.Coded.{le_prop}
-use Rattle.std.proofs.lemmas.List.{take-take, drop-take, get_or-take, length-take, length-take-le, length-drop, length-append, take_at, drop_at, take_all, append_assoc, drop_all}
+use Rattle.std.proofs.lemmas.List.{take-take, drop-take, get_or-take, length-append, take_at, drop_at, take_all, append_assoc}
 use Rattle.std.proofs.lemmas.Nat.{from_be_bytes-to_be_bytes_4}
 use Rattle.h2_frames.specs.declared.code.ErrorCode.{ErrorCode}
 use Rattle.h2_frames.specs.declared.frame.Frame.{Frame}
@@ -11,8 +11,8 @@ use Rattle.h2_frames.specs.declared.frame.Frame.TheVariants.{Content, Headers, P
 use Rattle.h2_frames.specs.declared.frame.FrameBody.{FrameBody}
 use Rattle.h2_frames.specs.declared.frame.OtherType.{OtherType}
 use Rattle.h2_frames.specs.Layout.{type_of, body_of, text_of, frame_text, IsFrame, size_of, said_length, said_word, IsPartial, IsTooLong}
-use Rattle.h2_frames.specs.Stream.{Follows, Reads, Frames, IsBroken, place_after}
-use Rattle.h2_frames.specs.Laws.{Ending, Waiting, Broken, Reading, HaveOneReading, AreReadAgain}
+use Rattle.h2_frames.specs.Stream.{Reads, Frames, place_after}
+use Rattle.h2_frames.specs.Laws.{Ending, Waiting, Broken, Reading}
 
 -- ---- a frame is its type and its body
 

@@ -1,5 +1,5 @@
 -- The frames of a list of bytes, and how a reader stands for it.
-use Rattle.std.specs.Prelude.{◌≡◌, ℕ, ◌+◌, ◌-◌, ◌^◌, ◌≤◌, Bool, List, [], ◌∷◌, ◌++◌, length, take, drop, min, codes, sum_by, Option, Some, None, MatchOption, is_some, if◌then◌else◌, ◌⊎◌, ◌↔◌, IsTrue}
+use Rattle.std.specs.Prelude.{◌≡◌, ℕ, ◌+◌, ◌-◌, ◌^◌, ◌≤◌, Bool, List, [], ◌∷◌, ◌++◌, length, take, drop, min, codes, sum_by, Some, None, MatchOption, is_some, if◌then◌else◌, ◌⊎◌, ◌↔◌, IsTrue}
 use Rattle.h2_frames.specs.declared.code.ErrorCode.{ErrorCode}
 use Rattle.h2_frames.specs.declared.code.TheConstants.ErrorCode as codes_of
 use Rattle.h2_frames.specs.declared.frame.Frame.{Frame}

@@ -1,7 +1,6 @@
 -- A code in front of the bits that are left, and the window over them.
 use Rattle.std.proofs.Common.{◌≡◌, ◌⊎◌, ℕ, zero, suc, ◌+◌, ◌-◌, ◌*◌, ◌/◌, ◌%◌, ◌^◌, ◌<◌, ◌≤◌, List, [], ◌∷◌, ◌++◌, length, take, refl, sym, ap, subst, ◌∙◌, arith, inl, inr, append_assoc, Option, Some, None}
 use Rattle.std.specs.Prelude.{replicate}
-use Rattle.std.proofs.lemmas.Bool.{cases_lt, cases_eq}
 use Rattle.std.proofs.lemmas.List.{append-nil, length-append, take_at, length-replicate, replicate_more}
 use Rattle.std.proofs.lemmas.Nat.{div_below, pow_pos}
 use Rattle.std.proofs.Math.Nat.{div-mul-le_self, lt-div-mul-add, pow-succ'}
@@ -12,7 +11,7 @@ use Rattle.hpack_huffman.specs.Bits.{window_of}
 use Rattle.hpack_huffman.specs.Faults.{HasNoCode, IsPadding, BeginsWithEnd}
 use Rattle.hpack_huffman.specs.Tables.{IsAt, IsEnd, class_at}
 use Rattle.hpack_huffman.proofs.BitLaws.{bits_split, same_bits, window_top, powers, window_high}
-use Rattle.hpack_huffman.proofs.TableTest.{HasRange, range_of, in_class, one_symbol, IsIn}
+use Rattle.hpack_huffman.proofs.TableTest.{range_of, in_class, one_symbol}
 
 pub length_bits : (m n : ℕ) → length (to_bits m n) ≡ m
 length_bits zero n = refl

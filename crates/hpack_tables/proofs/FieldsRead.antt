@@ -1,6 +1,5 @@
 -- Written fields are read again, item after item.
-use Rattle.std.proofs.Common.{◌≡◌, ℕ, zero, suc, ◌+◌, ◌-◌, ◌*◌, ◌^◌, ◌<◌, ◌≤◌, Bool, true, false, List, [], ◌∷◌, ◌++◌, length, sum_by, refl, sym, ap, subst, ◌∙◌, arith, inl, inr, append_assoc, Ok, Err, Result, Option, Some, None}
-use Rattle.std.specs.Prelude.{All, MatchOption}
+use Rattle.std.proofs.Common.{◌≡◌, ℕ, zero, suc, ◌+◌, ◌^◌, ◌<◌, ◌≤◌, Bool, true, false, List, [], ◌∷◌, ◌++◌, length, sum_by, refl, sym, ap, subst, ◌∙◌, arith, inl, inr, append_assoc, Ok, Result, Option, Some, None}
 use Rattle.std.proofs.lemmas.Bool.{cases_lt, lt-ltb, le-ltb, le-leb, lt-leb}
 use Rattle.std.proofs.lemmas.List.{append-nil}
 use Rattle.std.proofs.lemmas.List.Elements.{All-head, All-tail}
@@ -10,14 +9,14 @@ use Rattle.hpack_tables.specs.declared.field.Field.{Field}
 use Rattle.hpack_tables.specs.declared.encoder.Style.{Style}
 use Rattle.hpack_tables.specs.declared.encoder.Style.TheVariants.{Plain, Indexed}
 use Rattle.hpack_tables.specs.declared.fault.HpackFault.{HpackFault}
-use Rattle.hpack_tables.specs.declared.fault.HpackFault.TheVariants.{BadInteger, BadIndex}
+use Rattle.hpack_tables.specs.declared.fault.HpackFault.TheVariants.{BadInteger}
 use Rattle.hpack_tables.specs.Room.{size_of, fitting}
-use Rattle.hpack_tables.specs.Reading.{State, integer_at, entry_at, with_field, before, NameAt, IndexedAt, LiteralAt, ResizeAt, ItemAt, BlockAt, StringAt}
+use Rattle.hpack_tables.specs.Reading.{State, integer_at, entry_at, with_field, before, NameAt, IndexedAt, LiteralAt, ItemAt, BlockAt, StringAt}
 use Rattle.hpack_tables.specs.Reading.BlockAt.{ends, goes}
-use Rattle.hpack_tables.specs.Writing.{Encoder, Writes, integer_text, index_of, fits, first_bits, prefix, taken, update_text, limited, fresh, IsString, IsName, IsLiteral, IsFieldAs, IsFieldText, AreFieldTexts}
-use Rattle.hpack_tables.specs.Laws.{AreBytes, HasEntries, AreInStep, WrittenIsRead, StaysInStep}
-use Rattle.hpack_tables.proofs.NumbersRead.{integer_read, Headed, headed, string_read}
-use Rattle.hpack_tables.proofs.EntriesFound.{Entry, entry_of, same_name, same_field}
+use Rattle.hpack_tables.specs.Writing.{Encoder, integer_text, index_of, first_bits, prefix, update_text, IsString, IsName, IsFieldAs, AreFieldTexts}
+use Rattle.hpack_tables.specs.Laws.{AreBytes, HasEntries, WrittenIsRead, StaysInStep}
+use Rattle.hpack_tables.proofs.NumbersRead.{integer_read, headed, string_read}
+use Rattle.hpack_tables.proofs.EntriesFound.{entry_of, same_name, same_field}
 use Rattle.hpack_tables.proofs.Rooms.{fitting_room, fitting_twice, count_room}
 
 -- the state behind a field, which its table took or not

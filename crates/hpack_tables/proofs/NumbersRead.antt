@@ -1,8 +1,8 @@
 -- Written integers and strings are read again, whatever follows them.
-use Rattle.std.proofs.Common.{◌≡◌, ℕ, zero, suc, ◌+◌, ◌-◌, ◌*◌, ◌/◌, ◌%◌, ◌^◌, ◌<◌, ◌≤◌, Bool, true, false, List, [], ◌∷◌, ◌++◌, length, take, drop, refl, sym, ap, subst, ◌∙◌, arith, inl, inr, append_assoc, Ok, Result}
+use Rattle.std.proofs.Common.{◌≡◌, ℕ, zero, suc, ◌+◌, ◌-◌, ◌*◌, ◌/◌, ◌%◌, ◌^◌, ◌<◌, ◌≤◌, true, false, List, [], ◌∷◌, ◌++◌, length, refl, ap, subst, ◌∙◌, arith, inl, inr, append_assoc, Ok, Result}
 use Rattle.std.proofs.lemmas.Bool.{cases_lt, lt-ltb, le-ltb, le-leb, lt-leb}
 use Rattle.std.proofs.lemmas.List.{length-append}
-use Rattle.std.proofs.lemmas.Nat.{pow-add, pow_pos, div_below, mod_below}
+use Rattle.std.proofs.lemmas.Nat.{pow-add, pow_pos, div_below}
 use Rattle.std.proofs.Math.Nat.{mul-add-mod_self_right, mod-eq_of_lt}
 use Rattle.std.proofs.Math.Seq.{take-append_seam, drop-append_seam}
 use Rattle.hpack_huffman.specs.Code.{IsHuffman}
@@ -12,7 +12,7 @@ use Rattle.hpack_tables.specs.declared.encoder.Style.TheVariants.{Plain, Indexed
 use Rattle.hpack_tables.specs.declared.fault.HpackFault.{HpackFault}
 use Rattle.hpack_tables.specs.declared.fault.HpackFault.TheVariants.{BadString}
 use Rattle.hpack_tables.specs.Reading.{groups_at, integer_at, is_coded, StringAt}
-use Rattle.hpack_tables.specs.Writing.{groups_text, integer_text, plain_string, shorter_string, IsString}
+use Rattle.hpack_tables.specs.Writing.{groups_text, integer_text, plain_string, IsString}
 
 -- ---- integers
 

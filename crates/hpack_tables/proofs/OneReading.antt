@@ -1,5 +1,5 @@
 -- A block has one reading.
-use Rattle.std.proofs.Common.{◌≡◌, ◌⊎◌, ℕ, zero, suc, ◌^◌, Bool, true, false, List, [], ◌∷◌, ◌++◌, length, take, drop, get_or, refl, sym, ap, subst, ◌∙◌, inl, inr, Result, Ok, Err, Option, Some, None}
+use Rattle.std.proofs.Common.{◌≡◌, ◌⊎◌, ℕ, zero, suc, Bool, true, false, List, [], ◌∷◌, length, take, drop, get_or, refl, sym, ap, subst, ◌∙◌, inl, inr, Result, Ok, Err, Option, Some, None}
 use Rattle.std.specs.Prelude.{MatchBool, MatchResult, MatchOption, nat_lt, nat_le}
 use Rattle.hpack_huffman.proofs.Uniqueness.{one_text, no_fault}
 use Rattle.hpack_tables.specs.declared.field.Field.{Field}

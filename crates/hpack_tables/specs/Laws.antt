@@ -1,11 +1,11 @@
 -- Laws over the two definitions of header blocks, the one that reads and the one that writes.
-use Rattle.std.specs.Prelude.{◌≡◌, ℕ, ◌<◌, ◌≤◌, ◌^◌, Bool, true, false, List, [], ◌++◌, All, sum_by, Result, Ok}
+use Rattle.std.specs.Prelude.{◌≡◌, ℕ, ◌≤◌, Bool, true, false, List, [], All, sum_by, Result, Ok}
 use Rattle.hpack_huffman.specs.Faults.{IsText}
 use Rattle.hpack_tables.specs.declared.field.Field.{Field}
 use Rattle.hpack_tables.specs.declared.fault.HpackFault.{HpackFault}
 use Rattle.hpack_tables.specs.Room.{size_of, fitting}
 use Rattle.hpack_tables.specs.Reading.{State, BlockAt}
-use Rattle.hpack_tables.specs.Writing.{Encoder, Writes, fresh, limited}
+use Rattle.hpack_tables.specs.Writing.{Encoder, Writes, limited}
 
 -- a block gives one thing
 abbrev pub OneReading : Type 0

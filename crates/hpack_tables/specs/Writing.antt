@@ -1,5 +1,5 @@
 -- What a header encoder writes (RFC 7541, sections 5 and 6).
-use Rattle.std.specs.Prelude.{◌≡◌, ℕ, zero, suc, ◌+◌, ◌-◌, ◌*◌, ◌/◌, ◌%◌, ◌^◌, ◌&&◌, ◌||◌, not, Bool, true, false, nat_lt, List, [], ◌∷◌, ◌++◌, length, bytes_eq, Option, Some, None, if◌then◌else◌}
+use Rattle.std.specs.Prelude.{◌≡◌, ℕ, zero, suc, ◌+◌, ◌-◌, ◌/◌, ◌%◌, ◌^◌, ◌&&◌, ◌||◌, not, Bool, true, false, nat_lt, List, [], ◌∷◌, ◌++◌, length, bytes_eq, Option, Some, None, if◌then◌else◌}
 use Rattle.hpack_huffman.specs.Code.{IsHuffman}
 use Rattle.hpack_tables.specs.declared.field.Field.{Field}
 use Rattle.hpack_tables.specs.declared.encoder.Style.{Style}

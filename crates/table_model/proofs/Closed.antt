@@ -1,14 +1,14 @@
 -- Each reference of the table is there: kept by what is put with its references there, and by taking out what nothing refers to.
-use Rattle.std.proofs.Common.{◌≡◌, Bool, true, false, List, [], ◌∷◌, ◌++◌, Some, None, Option, refl, sym, ap, ◌∙◌}
-use Rattle.std.specs.Prelude.{not, ◌&&◌, ◌||◌, cond, filter, is_some}
+use Rattle.std.proofs.Common.{◌≡◌, Bool, true, false, List, [], ◌∷◌, refl, ap, ◌∙◌}
+use Rattle.std.specs.Prelude.{not, ◌&&◌, ◌||◌, filter, is_some}
 use Rattle.std.specs.List.{list_all, list_any}
 use Rattle.std.proofs.lemmas.List.Folds.{list_all-append}
 use Rattle.aft_entries.specs.declared.entry.Entry.{Entry}
 use Rattle.aft_entries.specs.declared.key.Key.{Key}
 use Rattle.aft_entries.specs.Order.{key_eq}
 use Rattle.aft_entries.specs.References.{refs_of, is_among, refers}
-use Rattle.aft_entries.proofs.OrderLemmas.{key_eq_same, key_eq_symm, key_eq_refl}
-use Rattle.table_model.specs.Table.{lookup, has, put, take_out, in_order, resolves, used}
+use Rattle.aft_entries.proofs.OrderLemmas.{key_eq_same, key_eq_symm}
+use Rattle.table_model.specs.Table.{lookup, has, put, take_out, resolves, used}
 use Rattle.table_model.specs.Laws.{is_closed}
 use Rattle.table_model.proofs.Tests.{and_left, and_right, and_both, all_weaken, all_filter}
 use Rattle.table_model.proofs.TableLemmas.{is_before, is_after}

@@ -1,14 +1,14 @@
 -- What a flush leaves of a closed table is closed: chains as long as the table reach all that can be reached.
-use Rattle.std.proofs.Common.{◌≡◌, ℕ, zero, suc, ◌+◌, ◌<◌, ◌≤◌, Bool, true, false, List, [], ◌∷◌, length, Some, None, Option, refl, sym, ap, ◌∙◌, arith, inl, inr, ◌⊎◌}
+use Rattle.std.proofs.Common.{◌≡◌, ℕ, zero, suc, ◌<◌, ◌≤◌, Bool, true, false, List, [], ◌∷◌, length, Some, refl, sym, ap, ◌∙◌, arith, inl, inr, ◌⊎◌}
 use Rattle.std.specs.Prelude.{not, ◌&&◌, ◌||◌, cond, filter, find, is_some}
 use Rattle.std.specs.List.{list_all, list_any}
 use Rattle.aft_entries.specs.declared.entry.Entry.{Entry}
 use Rattle.aft_entries.specs.declared.key.Key.{Key}
 use Rattle.aft_entries.specs.Order.{key_eq}
 use Rattle.aft_entries.specs.References.{refs_of, is_among, refers}
-use Rattle.aft_entries.proofs.OrderLemmas.{key_eq_same, key_eq_symm, key_eq_refl}
+use Rattle.aft_entries.proofs.OrderLemmas.{key_eq_same, key_eq_refl}
 use Rattle.table_model.specs.declared.command.Which.{Which}
-use Rattle.table_model.specs.Table.{lookup, has, resolves, stays, kept, names}
+use Rattle.table_model.specs.Table.{lookup, has, resolves, stays, kept}
 use Rattle.table_model.specs.Laws.{is_closed}
 use Rattle.table_model.proofs.Tests.{and_left, and_right, and_both, all_weaken}
 use Rattle.table_model.proofs.LookupLemmas.{find_filter_in}

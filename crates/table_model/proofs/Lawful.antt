@@ -1,18 +1,17 @@
 -- What every lawful history has: sessions have lower numbers than the events to come.
-use Rattle.std.proofs.Common.{◌≡◌, ℕ, suc, ◌+◌, ◌<◌, ◌≤◌, Bool, true, false, List, [], ◌∷◌, ◌++◌, Some, None, Option, refl, sym, ap, ◌∙◌, arith, length, inl, inr, add-one, ◌⊎◌}
-use Rattle.std.specs.Prelude.{◌||◌, ◌&&◌, not, nat_eq, nat_lt, nat_le, option_map, filter, filter_map, is_some, IsTrue, if◌then◌else◌, cond}
+use Rattle.std.proofs.Common.{◌≡◌, ℕ, ◌<◌, ◌≤◌, Bool, true, false, List, [], ◌∷◌, ◌++◌, Some, None, Option, refl, sym, ap, ◌∙◌, arith, length, inl, inr}
+use Rattle.std.specs.Prelude.{◌||◌, ◌&&◌, not, nat_eq, nat_lt, nat_le, option_map, cond}
 use Rattle.std.specs.List.{list_all, list_any}
 use Rattle.std.proofs.lemmas.Bool.Decides.{nat_tests}
 use Rattle.std.proofs.lemmas.List.Folds.{list_all-append, list_any-append}
 use Rattle.table_model.specs.declared.command.Command.{Command}
-use Rattle.table_model.specs.declared.command.Command.TheVariants.{Begin, SetParams, Announce, Operate, Collect, Leave, Flush, Select, Take, Report, Halt}
+use Rattle.table_model.specs.declared.command.Command.TheVariants.{Begin, SetParams, Announce}
 use Rattle.table_model.specs.declared.command.Config.{Config}
-use Rattle.table_model.specs.declared.params.Params.{Params}
 use Rattle.table_model.specs.declared.reply.Reply.{Reply}
 use Rattle.table_model.specs.declared.reply.Reply.TheVariants as reply
 use Rattle.table_model.specs.Event.{Event, events, is_began, is_params_set, is_announced, is_left, is_no_memory}
-use Rattle.table_model.specs.Sessions.{live, is_live, params_of, leaver, without, asked_by, or_else}
-use Rattle.table_model.specs.Election.{Announcement, announcements, announced, announcement, top_id, winner, primary, unless}
+use Rattle.table_model.specs.Sessions.{live, is_live, params_of, leaver, without, asked_by}
+use Rattle.table_model.specs.Election.{Announcement, announcements, announcement, top_id, winner, primary, unless}
 use Rattle.std.specs.List.{cons_option}
 use Rattle.table_model.proofs.ElectionLemmas.{winner_top, winner_other, if_live}
 use Rattle.table_model.specs.Reply.{reply_to, is_stoppable, is_halted, is_gone, caller, answer}

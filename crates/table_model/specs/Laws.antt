@@ -2,7 +2,6 @@
 use Rattle.std.specs.Prelude.{◌≡◌, ◌↔◌, ◌⊎◌, ℕ, ℤ, ◌<◌, ◌≤◌, Bool, true, false, not, ◌&&◌, List, [], ◌∷◌, ◌++◌, ◌==◌, find, take, length, count_by, option_and_then, is_some, if◌then◌else◌, Option, Some, None}
 use Rattle.std.specs.List.{list_all, list_any}
 use Rattle.aft_entries.specs.declared.entry.Entry.{Entry}
-use Rattle.aft_entries.specs.declared.key.Key.{Key}
 use Rattle.table_model.specs.declared.command.Command.{Command}
 use Rattle.table_model.specs.declared.command.Command.TheVariants.{Operate, Collect, Report, Leave, Flush, Announce}
 use Rattle.table_model.specs.declared.command.Config.{Config}

@@ -1,10 +1,10 @@
 -- What a board keeps, and the history that it stands for. It keeps no job that is done: no definition of the next job looks at one.
-use Rattle.std.specs.Prelude.{◌≡◌, ℕ, Bool, not, List, map, filter, drop, count_by}
+use Rattle.std.specs.Prelude.{◌≡◌, ℕ, Bool, List, map, filter, drop}
 use Rattle.aft_entries.specs.declared.entry.Entry.{Entry}
 use Rattle.table_model.specs.declared.results.FibResult.{FibResult}
 use Rattle.table_model.specs.Event.{Event}
 use Rattle.table_model.specs.Jobs.{Slot, slots, fib, is_undone}
-use Rattle.table_model.specs.Results.{results, taken, is_awaited}
+use Rattle.table_model.specs.Results.{results, taken}
 use Rattle.table_model.specs.Sessions.{live}
 
 -- the results of a session that it hasn't collected

@@ -1,12 +1,11 @@
 -- The results that a session collects.
-use Rattle.std.specs.Prelude.{ℕ, ◌+◌, ◌-◌, Bool, true, false, ◌&&◌, ◌==◌, List, [], ◌∷◌, ◌++◌, length, take, drop, find, count_by, Option, Some, None, option_and_then, option_to_list, if◌then◌else◌}
-use Rattle.table_model.specs.declared.command.Command.{Command}
+use Rattle.std.specs.Prelude.{ℕ, ◌+◌, ◌-◌, Bool, false, ◌&&◌, ◌==◌, List, [], ◌∷◌, ◌++◌, length, take, drop, find, count_by, Option, Some, None, option_and_then, option_to_list, if◌then◌else◌}
 use Rattle.table_model.specs.declared.command.Command.TheVariants.{Collect}
 use Rattle.table_model.specs.declared.results.FibResult.{FibResult}
 use Rattle.table_model.specs.declared.reply.Reply.{Reply}
 use Rattle.table_model.specs.declared.reply.Reply.TheVariants.{Collected}
 use Rattle.table_model.specs.Event.{Event}
-use Rattle.table_model.specs.Jobs.{Task, Turn, Slot, Outcome, Waiting, Out, Programmed, Faulted, Passed, tasks, slots, turn_of, number_eq, is_undone, skip_reason}
+use Rattle.table_model.specs.Jobs.{Task, Turn, Slot, Outcome, Faulted, Passed, tasks, slots, turn_of, number_eq, is_undone, skip_reason}
 
 -- whose results the session collects
 abbrev pub wanted_by : ℕ → Task → Bool

@@ -1,4 +1,4 @@
-use Rattle.std.proofs.Common.{◌≡◌, ◌≤◌, ◌*◌, ◌-◌, ◌++◌, ◌⊎◌, [], List, ℕ, vec_len}
+use Rattle.std.proofs.Common.{◌≡◌, ◌≤◌, ◌*◌, ◌-◌, ◌⊎◌, [], vec_len}
 use Rattle.std.specs.Vec.{vec_capacity}
 use Rattle.hpack_huffman.specs.Bits.{left_of, size_of}
 use Rattle.hpack_huffman.proofs.Texts.{Goes}

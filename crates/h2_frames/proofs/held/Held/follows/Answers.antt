@@ -1,4 +1,4 @@
-use Rattle.std.proofs.Common.{◌≡◌, ℕ, ◌-◌, ◌↔◌, ◌++◌, Bool, true, false, List, length, take, drop, min, IsTrue, sym, ap, subst, ◌∙◌}
+use Rattle.std.proofs.Common.{◌≡◌, ℕ, ◌-◌, ◌↔◌, ◌++◌, Bool, false, List, length, take, drop, min, IsTrue, sym, ap, subst, ◌∙◌}
 use Rattle.std.proofs.lemmas.List.{drop_min, take_rest}
 use Rattle.h2_frames.specs.Stream.{Follows}
 use Rattle.h2_frames.proofs.Prefixes.{Follows-cut, Follows-behind, Follows-join}

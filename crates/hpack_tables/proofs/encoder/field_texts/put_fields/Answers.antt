@@ -1,4 +1,4 @@
-use Rattle.std.proofs.Common.{◌≡◌, ◌∙◌}
+use Rattle.std.proofs.Common.{◌∙◌}
 use Rattle.hpack_tables.proofs.FieldsWritten.{one_more, all_written}
 use Rattle.hpack_tables.proofs.encoder.field_texts.put_fields.Goals as goal
 

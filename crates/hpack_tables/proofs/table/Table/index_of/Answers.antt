@@ -1,4 +1,4 @@
-use Rattle.std.proofs.Common.{◌≡◌, ◌≤◌, ◌<◌, ap, sym, ◌∙◌, arith}
+use Rattle.std.proofs.Common.{ap, sym, ◌∙◌, arith}
 use Rattle.hpack_tables.specs.Entries.{Entries}
 use Rattle.hpack_tables.proofs.Rooms.{count_room}
 use Rattle.hpack_tables.proofs.EntriesFound.{static_found, nothing_found, dynamic_found}

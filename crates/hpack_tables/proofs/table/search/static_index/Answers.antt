@@ -1,4 +1,4 @@
-use Rattle.std.proofs.Common.{◌≡◌, ◌+◌, ◌≤◌, ◌<◌, length, sym, ◌∙◌, arith}
+use Rattle.std.proofs.Common.{◌+◌, ◌≤◌, length, sym, ◌∙◌, arith}
 use Rattle.hpack_tables.specs.StaticTable.{field, static_table}
 use Rattle.hpack_tables.specs.Writing.{fits}
 use Rattle.hpack_tables.proofs.EntriesFound.{search_step, search_found, search_end, static_length}
