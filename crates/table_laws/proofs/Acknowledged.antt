@@ -1,6 +1,6 @@
 -- When an operation is acknowledged, and what the table then has.
-use Rattle.std.proofs.Common.{◌≡◌, ℕ, Bool, true, false, List, [], ◌∷◌, Some, None, Option, refl, sym, ap, ◌∙◌}
-use Rattle.std.specs.Prelude.{not, ◌&&◌, cond, ℤ, is_some}
+use Rattle.std.proofs.Common.{◌≡◌, ℕ, Bool, true, false, List, Some, None, Option, refl, sym, ◌∙◌}
+use Rattle.std.specs.Prelude.{not, cond, ℤ, is_some}
 use Rattle.aft_entries.specs.declared.entry.Entry.{Entry}
 use Rattle.aft_entries.specs.declared.operation.Ask.{Ask}
 use Rattle.aft_entries.specs.declared.operation.Ask.TheVariants.{Put, Remove, Bad}
@@ -15,8 +15,8 @@ use Rattle.table_model.specs.declared.reply.Reply.{Reply}
 use Rattle.table_model.specs.declared.reply.Reply.TheVariants as reply
 use Rattle.table_model.specs.Event.{Event}
 use Rattle.table_model.specs.Jobs.{work_key, work_of}
-use Rattle.table_model.specs.Laws.{left_by, event, DoneWhereDue, DoneIsThere}
-use Rattle.table_model.specs.Reply.{reply_to, operate_reply, reply_operate, is_halted, is_gone}
+use Rattle.table_model.specs.Laws.{left_by, DoneWhereDue, DoneIsThere}
+use Rattle.table_model.specs.Reply.{reply_to, operate_reply, reply_operate, is_halted}
 use Rattle.table_model.specs.Rib.{rib, verdict}
 use Rattle.table_model.specs.Sessions.{is_live, params_of}
 use Rattle.table_model.specs.Table.{lookup, performed}

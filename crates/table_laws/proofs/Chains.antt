@@ -1,5 +1,5 @@
 -- Chains of backups stay short: by what is put where it isn't too deep, by what is taken out, and by Flushes.
-use Rattle.std.proofs.Common.{◌≡◌, ℕ, zero, suc, ◌+◌, ◌<◌, ◌≤◌, Bool, true, false, List, [], ◌∷◌, ◌++◌, length, Some, None, Option, refl, sym, ap, ◌∙◌, arith, inl, inr, ◌⊎◌}
+use Rattle.std.proofs.Common.{◌≡◌, ℕ, zero, suc, ◌+◌, ◌≤◌, Bool, true, false, List, [], ◌∷◌, length, Some, None, Option, refl, sym, ap, ◌∙◌, arith, inl, inr, ◌⊎◌}
 use Rattle.std.specs.Prelude.{◌-◌, not, ◌&&◌, ◌||◌, cond, filter, find, fold, max, nat_le, nat_lt, option_and_then, if◌then◌else◌}
 use Rattle.std.specs.List.{list_all, list_any}
 use Rattle.std.proofs.lemmas.Bool.Decides.{nat_tests}
@@ -11,7 +11,7 @@ use Rattle.aft_entries.specs.Order.{key_eq}
 use Rattle.aft_entries.proofs.OrderLemmas.{key_eq_same, key_eq_symm, key_eq_refl}
 use Rattle.table_model.specs.declared.command.Which.{Which}
 use Rattle.table_model.specs.Table.{lookup, put, take_out, backup_of, names_key, chain, depth, above, is_too_deep, is_too_deep_with, is_shallow, stays, kept}
-use Rattle.table_model.proofs.Tests.{and_left, and_right, and_both, all_weaken, all_filter}
+use Rattle.table_model.proofs.Tests.{and_both, all_weaken, all_filter}
 use Rattle.table_model.proofs.LookupLemmas.{lookup_put_same, lookup_put_other, lookup_take_out_same, lookup_take_out_other, find_filter_in, find_filter_out}
 
 -- the group that the chain goes on to

@@ -1,19 +1,17 @@
 -- The election: the highest id, and who is the primary after an announcement.
-use Rattle.std.proofs.Common.{◌≡◌, ℕ, ◌<◌, ◌≤◌, Bool, true, false, List, [], ◌∷◌, Some, None, Option, refl, sym, ap, ◌∙◌, arith}
-use Rattle.std.specs.Prelude.{not, ◌&&◌, ◌==◌, nat_eq, nat_le, max, cond, is_some}
+use Rattle.std.proofs.Common.{◌≡◌, ℕ, ◌≤◌, Bool, true, false, List, Some, None, Option, refl, ap, ◌∙◌, arith}
+use Rattle.std.specs.Prelude.{not, ◌==◌, nat_eq, max, cond, is_some}
 use Rattle.std.specs.List.{cons_option}
 use Rattle.std.proofs.lemmas.Bool.Decides.{nat_tests}
 use Rattle.table_model.specs.declared.command.Command.TheVariants.{Announce}
 use Rattle.table_model.specs.declared.command.Config.{Config}
-use Rattle.table_model.specs.declared.reply.Reply.{Reply}
 use Rattle.table_model.specs.declared.reply.Reply.TheVariants as reply
-use Rattle.table_model.specs.Election.{Announcement, announced, announcements, top_id, highest, primary, is_primary, is_it, unless}
+use Rattle.table_model.specs.Election.{Announcement, announced, announcements, top_id, highest, primary, is_it, unless}
 use Rattle.table_model.specs.Event.{Event}
-use Rattle.table_model.specs.Laws.{event, HighestNeverFalls, LatestIsPrimary, LowerIsNotPrimary}
-use Rattle.table_model.specs.Reply.{reply_to, reply_announce, is_halted, is_gone}
+use Rattle.table_model.specs.Laws.{HighestNeverFalls, LatestIsPrimary, LowerIsNotPrimary}
+use Rattle.table_model.specs.Reply.{reply_to, reply_announce, is_halted}
 use Rattle.table_model.specs.Sessions.{is_live, params_of}
 use Rattle.table_model.proofs.ElectionLemmas.{announced_top, announced_other}
-use Rattle.table_model.proofs.Lawful.{answered_live}
 
 one_more : (made : Option Announcement) (earlier : List Announcement) → top_id earlier ≤ top_id (cons_option made earlier)
 one_more None earlier = omega arith

@@ -6,3 +6,8 @@ pub mod Acknowledged
 pub mod ElectionLaws
 pub mod Ascending
 pub mod Turns
+pub mod InTurn
+pub mod Reports
+pub mod Completions
+pub mod Collected
+pub mod Answered

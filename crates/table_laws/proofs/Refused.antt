@@ -1,10 +1,9 @@
 -- What it says that an operation isn't refused.
-use Rattle.std.proofs.Common.{◌≡◌, ℕ, Bool, true, false, List, [], ◌∷◌, Some, None, Option, refl}
+use Rattle.std.proofs.Common.{◌≡◌, ℕ, Bool, true, false, List, [], ◌∷◌, None, refl}
 use Rattle.std.specs.Prelude.{not, ◌&&◌, nat_le, length}
 use Rattle.aft_entries.specs.declared.entry.Entry.{Entry}
 use Rattle.aft_entries.specs.declared.key.Key.{Key}
 use Rattle.aft_entries.specs.declared.operation.Ask.TheVariants.{Put, Remove}
-use Rattle.aft_entries.specs.declared.operation.Reason.{Reason}
 use Rattle.aft_entries.specs.declared.operation.Reason.TheVariants.{UnknownInstance, BadKey, BadPayload, NotThere, Unresolved, BackupDepth, InUse, TableFull}
 use Rattle.table_model.specs.Table.{has, resolves, used, refusal, first_that_holds, is_bad_name, is_bad_payload, is_too_deep}
 

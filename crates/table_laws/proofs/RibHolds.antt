@@ -1,12 +1,9 @@
 -- What holds of the empty table, and is kept by operations that aren't refused and by Flushes, holds of the table of each lawful history.
-use Rattle.std.proofs.Common.{◌≡◌, ℕ, Bool, true, false, List, [], ◌∷◌, Some, None, Option, refl, sym, ap, ◌∙◌}
-use Rattle.std.specs.Prelude.{not, ◌&&◌, ◌||◌, cond, ℤ, is_some, nat_le, length}
+use Rattle.std.proofs.Common.{◌≡◌, ℕ, Bool, true, false, List, [], ◌∷◌, Some, None, Option, refl, sym}
+use Rattle.std.specs.Prelude.{not, ◌&&◌, cond, ℤ, is_some}
 use Rattle.table_model.specs.Sessions.{params_of}
-use Rattle.std.specs.List.{list_all, list_any}
 use Rattle.aft_entries.specs.declared.entry.Entry.{Entry}
-use Rattle.aft_entries.specs.declared.key.Key.{Key}
 use Rattle.aft_entries.specs.declared.operation.Ask.{Ask}
-use Rattle.aft_entries.specs.declared.operation.Ask.TheVariants.{Put, Remove, Bad}
 use Rattle.aft_entries.specs.declared.operation.Reason.{Reason}
 use Rattle.table_model.specs.declared.command.Command.{Command}
 use Rattle.table_model.specs.declared.command.Command.TheVariants.{Begin, SetParams, Announce, Operate, Collect, Leave, Flush, Select, Take, Report, Halt}
@@ -16,11 +13,11 @@ use Rattle.table_model.specs.declared.reply.Reply.{Reply}
 use Rattle.table_model.specs.declared.reply.Reply.TheVariants as reply
 use Rattle.table_model.specs.Event.{Event, is_done, is_left, is_flushed}
 use Rattle.table_model.specs.Legal.{IsLawful}
-use Rattle.table_model.specs.Reply.{reply_to, reply_operate, operate_reply, is_stoppable, is_halted, is_gone, answer}
-use Rattle.table_model.specs.Rib.{rib, rib_after, purges, verdict, is_id}
-use Rattle.table_model.specs.Table.{lookup, has, put, take_out, resolves, used, performed, refusal, first_that_holds, is_bad_name, is_bad_payload, is_too_deep}
+use Rattle.table_model.specs.Reply.{reply_to, reply_operate, operate_reply, is_halted, is_gone}
+use Rattle.table_model.specs.Rib.{rib, purges, verdict, is_id}
+use Rattle.table_model.specs.Table.{performed, refusal}
 use Rattle.table_model.specs.Election.{is_primary, highest}
-use Rattle.aft_entries.specs.declared.operation.Reason.TheVariants.{NotPrimary, ElectionIdDiffers, UnknownInstance, BadKey, BadPayload, NotThere, Unresolved, BackupDepth, InUse, TableFull}
+use Rattle.aft_entries.specs.declared.operation.Reason.TheVariants.{NotPrimary, ElectionIdDiffers}
 use Rattle.table_model.specs.declared.command.Which.{Which}
 use Rattle.table_model.specs.Table.{kept}
 

@@ -1,6 +1,6 @@
 -- The table of each lawful history: in order, closed, with short chains, and what changes it.
 use Rattle.std.proofs.Common.{◌≡◌, ℕ, Bool, true, false, List, [], ◌∷◌, Some, None, Option, refl, sym, ap, ◌∙◌, arith, inl, inr, ◌⊎◌}
-use Rattle.std.specs.Prelude.{not, ◌&&◌, ◌==◌, cond, ℤ}
+use Rattle.std.specs.Prelude.{not, cond, ℤ}
 use Rattle.std.proofs.lemmas.Bool.Decides.{nat_tests}
 use Rattle.aft_entries.specs.declared.entry.Entry.{Entry}
 use Rattle.aft_entries.specs.declared.operation.Ask.{Ask}
@@ -16,10 +16,9 @@ use Rattle.table_model.specs.declared.command.Which.{Which}
 use Rattle.table_model.specs.declared.reply.Reply.{Reply}
 use Rattle.table_model.specs.declared.reply.Reply.TheVariants as reply
 use Rattle.table_model.specs.Election.{is_primary, highest}
-use Rattle.table_model.specs.Event.{Event, is_left, is_flushed}
+use Rattle.table_model.specs.Event.{Event, is_flushed}
 use Rattle.table_model.specs.Laws.{event, is_closed, MayChange, RibIsClosed, RibIsInOrder, ChainsAreShort, RibChangesByThese}
-use Rattle.table_model.specs.Legal.{IsLawful}
-use Rattle.table_model.specs.Reply.{reply_to, is_halted, is_gone, may_flush, answer}
+use Rattle.table_model.specs.Reply.{reply_to, is_halted, may_flush}
 use Rattle.table_model.specs.Rib.{rib, purges, verdict, is_id}
 use Rattle.table_model.specs.Sessions.{params_of, deletes}
 use Rattle.table_model.specs.Table.{in_order, is_shallow, performed, refusal, remains, kept}

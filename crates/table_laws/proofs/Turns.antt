@@ -1,6 +1,6 @@
 -- What the events of a lawful history say of jobs: jobs in conflict are done in the order of their numbers.
-use Rattle.std.proofs.Common.{◌≡◌, ℕ, suc, ◌+◌, ◌<◌, ◌≤◌, Bool, true, false, List, [], ◌∷◌, ◌++◌, length, Some, None, Option, refl, sym, ap, ◌∙◌, arith, inl, inr, ◌⊎◌}
-use Rattle.std.specs.Prelude.{not, ◌&&◌, ◌||◌, ◌==◌, nat_eq, nat_lt, nat_le, cond, map, find, ℤ}
+use Rattle.std.proofs.Common.{◌≡◌, ℕ, Bool, true, false, List, [], ◌∷◌, ◌++◌, length, Some, None, Option, refl, sym, ap, ◌∙◌, arith, inl, inr, ◌⊎◌}
+use Rattle.std.specs.Prelude.{not, ◌&&◌, ◌||◌, nat_eq, cond, map, find, ℤ}
 use Rattle.std.specs.List.{list_all, list_any}
 use Rattle.std.proofs.lemmas.Bool.Decides.{nat_tests}
 use Rattle.table_model.specs.declared.command.Command.{Command}
@@ -12,12 +12,11 @@ use Rattle.table_model.specs.declared.job.Verdict.TheVariants as verdict
 use Rattle.table_model.specs.declared.reply.Reply.{Reply}
 use Rattle.table_model.specs.declared.reply.Reply.TheVariants as reply
 use Rattle.table_model.specs.Event.{Event}
-use Rattle.table_model.specs.Jobs.{Task, Turn, Slot, Outcome, Waiting, Out, Programmed, Faulted, Passed, tasks, tasks_by, slots, turn_of, turn_taken, turned, reported, outcome_of, number_eq, number_lt, is_undone, is_out, is_waiting, is_programmed, is_blocked, on_shard, next_task, conflict, is_clear, is_skipped, fib}
+use Rattle.table_model.specs.Jobs.{Task, Turn, Slot, Outcome, Out, Passed, tasks, slots, turn_of, turn_taken, reported, outcome_of, number_eq, number_lt, is_undone, is_out, is_waiting, is_programmed, is_blocked, on_shard, next_task, conflict, is_clear, is_skipped, fib}
 use Rattle.table_model.specs.Laws.{event, is_ascending}
-use Rattle.table_model.specs.Legal.{IsLawful}
 use Rattle.table_model.specs.Reply.{reply_to, reply_take, take_reply, is_halted}
-use Rattle.table_model.proofs.Tests.{and_left, and_right, and_both}
-use Rattle.table_laws.proofs.Ascending.{number, is_older, is_from, made_of, tasks_older, ascend}
+use Rattle.table_model.proofs.Tests.{and_left, and_right}
+use Rattle.table_laws.proofs.Ascending.{number, is_older, tasks_older, ascend}
 
 -- Facts of each task of a list, and of each two of it.
 

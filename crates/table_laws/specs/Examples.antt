@@ -3,10 +3,9 @@ use Rattle.std.specs.Prelude.{ℕ, pos, true, false, List, [], ◌∷◌, Some, 
 use Rattle.aft_entries.specs.declared.operation.Ask.TheVariants as ask
 use Rattle.aft_entries.specs.declared.operation.Reason.TheVariants as reason
 use Rattle.aft_entries.specs.References.{hop_key, group_key}
-use Rattle.table_model.specs.declared.command.Command.TheVariants.{Begin, SetParams, Announce, Collect, Leave, Flush, Report, Halt}
+use Rattle.table_model.specs.declared.command.Command.TheVariants.{Begin, SetParams, Announce, Collect, Leave, Flush, Halt}
 use Rattle.table_model.specs.declared.command.FlushBy.TheVariants.{Id, Override}
 use Rattle.table_model.specs.declared.command.Which.TheVariants.{All, One}
-use Rattle.table_model.specs.declared.job.Verdict.TheVariants as verdict
 use Rattle.table_model.specs.declared.params.AckType.{AckType}
 use Rattle.table_model.specs.declared.params.AckType.TheVariants as ack
 use Rattle.table_model.specs.declared.params.Persistence.{Persistence}

@@ -10,11 +10,10 @@ use Rattle.aft_entries.specs.declared.operation.Reason.{Reason}
 use Rattle.aft_entries.specs.declared.operation.Row.{Row}
 use Rattle.aft_entries.specs.References.{hop_key, group_key}
 use Rattle.table_model.specs.declared.command.Command.{Command}
-use Rattle.table_model.specs.declared.command.Command.TheVariants.{Begin, SetParams, Announce, Operate, Collect, Leave, Flush, Select, Take, Report, Halt}
+use Rattle.table_model.specs.declared.command.Command.TheVariants.{Operate, Select, Take, Report}
 use Rattle.table_model.specs.declared.command.Config.{Config}
 use Rattle.table_model.specs.declared.command.Which.{Which}
 use Rattle.table_model.specs.declared.command.KindAsk.TheVariants as kinds
-use Rattle.table_model.specs.declared.job.Job.{Job}
 use Rattle.table_model.specs.declared.job.JobNumber.{JobNumber}
 use Rattle.table_model.specs.declared.job.Verdict.TheVariants as verdict
 use Rattle.table_model.specs.declared.job.Work.{Work}

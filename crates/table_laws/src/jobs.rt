@@ -4,12 +4,55 @@ ghost use Rattle.aft_entries.specs.declared.entry.Entry.{Entry};
 ghost use Rattle.aft_entries.specs.Order.{key_eq};
 ghost use Rattle.table_model.specs.declared.job.Work.{Work};
 ghost use Rattle.table_model.specs.Jobs.{effect, work_key};
-ghost use Rattle.table_model.specs.Laws.{JobsAscend};
+ghost use Rattle.table_model.specs.declared.command.Config.{Config};
+ghost use Rattle.table_model.specs.Laws.{AllAnswered, AnsweredOnce, JobsAscend, CompletesOnce, ConflictsInOrder, OutAreApart, ProgrammedWasReported, ReportsGiveFib, ProgrammedIsThere};
 ghost use Rattle.table_model.specs.Table.{in_order};
 
 /// Jobs stand in the order of their numbers, and no number names two.
 pub fn jobs_ascend()
     ensures { JobsAscend }
+{}
+
+/// Jobs in conflict are done in the order of their numbers: where the later one is out or done, the earlier one is done.
+pub fn jobs_in_conflict_keep_order()
+    ensures { (config : Config) → ConflictsInOrder config }
+{}
+
+/// No two jobs in conflict are out.
+pub fn jobs_out_are_apart()
+    ensures { (config : Config) → OutAreApart config }
+{}
+
+/// No job is completed twice.
+pub fn jobs_complete_once()
+    ensures { (config : Config) → CompletesOnce config }
+{}
+
+/// A result without a failure comes of a report that the device programmed the job, which its session wants told.
+pub fn programmed_was_reported()
+    ensures { ProgrammedWasReported }
+{}
+
+/// What a session's Collects answer are the first of its results in the order of completion, each once.
+pub fn results_are_answered_once()
+    ensures { (config : Config) → AnsweredOnce config }
+{}
+
+/// Where a Collect answers that nothing is outstanding, each result was answered, and each job whose result the session
+/// wants has one.
+pub fn all_are_answered()
+    ensures { (config : Config) → AllAnswered config }
+{}
+
+/// The forwarding table as reports change it, in the order in which they come, is the one that the programmed jobs
+/// leave in the order of their numbers.
+pub fn reports_give_fib()
+    ensures { (config : Config) → ReportsGiveFib config }
+{}
+
+/// Right after the report that a job is programmed, the forwarding table has its entry, or no longer its key.
+pub fn programmed_is_there()
+    ensures { (config : Config) → ProgrammedIsThere config }
 {}
 
 /// A job that is done late does what it would have done in its place, where no later one has its key.

@@ -1,5 +1,6 @@
 //! Laws of every lawful history of the table. Each is the contract of a function that does nothing: to call it is
-//! to cite the law.
+//! to cite the law. Of the statements in `specs/Laws` of `table_model` only those that a function here has for its
+//! contract are proved.
 #![tactic(auto)]
 
 mod election;
@@ -16,7 +17,11 @@ pub use examples::{
     equal_ids_make_the_latest_primary, parameters_are_refused, references_come_first,
     refusals_of_the_table, what_changes_nothing_makes_a_job,
 };
-pub use jobs::{jobs_ascend, late_work};
+pub use jobs::{
+    all_are_answered, jobs_ascend, jobs_complete_once, jobs_in_conflict_keep_order,
+    jobs_out_are_apart, late_work, programmed_is_there, programmed_was_reported, reports_give_fib,
+    results_are_answered_once,
+};
 pub use rib::{
     chains_are_short, done_is_there, done_where_due, equal_lookups, events_are_lawful,
     rib_changes_by_these, rib_is_closed, rib_is_in_order,

@@ -1,0 +1,4 @@
+pub mod Payloads
+pub mod Elections
+pub mod Walks
+pub mod Steps
