@@ -1,0 +1,13 @@
+use Rattle.std.proofs.Common.{ap, ◌∙◌, refl, Some}
+use Rattle.aft_store.proofs.Placing.{found_lookup, gap_lookup}
+use Rattle.aft_store.proofs.store.Store.get.Goals as goal
+
+pub returns-in-Ok : goal.returns-in-Ok
+returns-in-Ok c =
+    let found = rw c.deref.ensures.value at c.in-Ok.ensures.found in
+    rw (← c.self.view_is, found_lookup _ _ _ c.index-entry.result.now found) (ap (λ e. Some e.payload) (c.entry.view_is ∙ c.index-entry.ensures))
+
+pub returns-in-Err : goal.returns-in-Err
+returns-in-Err c =
+    let gap = rw c.deref.ensures.value at c.in-Err.ensures.absent in
+    rw (← c.self.view_is, gap_lookup _ _ _ gap) refl

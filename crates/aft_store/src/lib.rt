@@ -1,0 +1,9 @@
+//! A table of entries of the forwarding tables, in key order, each found by a search by halves.
+#![tactic(auto)]
+
+mod place;
+mod store;
+#[cfg(test)]
+mod tests;
+
+pub use store::Store;

@@ -1,0 +1,110 @@
+ghost use Rattle.std.specs.Prelude.{◌≡◌, ◌+◌, ◌-◌, ◌≤◌, ◌<◌, ◌⊎◌, [], length, IsTrue, OnOk, OnErr, slice_get, option_map, option_copied, vec_len, vec_capacity};
+ghost use Rattle.table_model.specs.Table.{lookup, has, put, take_out, in_order};
+ghost use Rattle.aft_store.specs.Held.{Held};
+
+use crate::place::place_of;
+use aft_entries::{Entry, Key, Payload};
+use std::alloc::{AllocError, Global};
+use std::marker::Model;
+use std::mem;
+
+/// Entries in key order, and room for more. The key of each place is before that of the next.
+#[derive(Drop)]
+pub struct Store {
+    entries: Vec<Entry>,
+}
+
+impl Model for Store {
+    ghost Value = { Held };
+
+    ghost view = { λ s. record { entries = s.entries.items; spare = vec_capacity s.entries - vec_len s.entries } };
+
+    ghost invariant = { λ s. IsTrue (in_order s.entries.items) };
+}
+
+impl Store {
+    /// No entries.
+    pub fn new(alloc: Global) -> Store
+        ensures entries { result.entries ≡ [] }
+    {
+        Store {
+            entries: Vec::new(alloc),
+        }
+    }
+
+    /// How many entries there are.
+    pub fn len(&self) -> u64
+        ensures { result ≡ length self.now.entries }
+    {
+        self.entries.len() as u64
+    }
+
+    /// The entry at a place in key order, counted from 0.
+    pub fn at(&self, n: u64) -> &Entry
+        requires { n < length self.now.entries }
+        ensures { slice_get self.now.entries n ≡ Some result.now }
+    {
+        &self.entries[n as usize]
+    }
+
+    /// The payload of the key, if it is there.
+    pub fn get(&self, key: &Key) -> Option<&Payload>
+        ensures { option_copied result ≡ option_map (λ e. e.payload) (lookup key.now self.now.entries) }
+    {
+        match place_of(&self.entries, key) {
+            Ok(at) => {
+                let entry = &self.entries[at];
+                Some(&entry.payload)
+            }
+            Err(_) => None,
+        }
+    }
+
+    /// Makes room for so many more entries. This alone takes memory.
+    pub fn reserve(&mut self, more: u64) -> Result<(), AllocError>
+        ensures entries { self.new.entries ≡ self.old.entries }
+        ensures ok { OnOk result (more ≤ self.new.spare) }
+        ensures kept { self.old.spare ≤ self.new.spare }
+        ensures err { OnErr result (self.new ≡ self.old) }
+    {
+        self.entries.reserve(more as usize)
+    }
+
+    /// Puts the entry in place of the one with its key, and answers that one, if there was one. A key that isn't
+    /// there takes a place that was made.
+    pub fn put_reserved(&mut self, entry: Entry) -> Option<Entry>
+        requires room { (0 < self.old.spare) ⊎ IsTrue (has self.old.entries entry.key) }
+        ensures displaced { result ≡ lookup entry.key self.old.entries }
+        ensures entries { self.new.entries ≡ put entry self.old.entries }
+        ensures spare { self.old.spare ≤ self.new.spare + 1 }
+        ensures in_place { IsTrue (has self.old.entries entry.key) → self.old.spare ≤ self.new.spare }
+    {
+        match place_of(&self.entries, &entry.key) {
+            Ok(at) => Some(mem::replace(&mut self.entries[at], entry)),
+            Err(at) => match self.entries.insert(at, entry) {
+                Ok(()) => None,
+                Err(_) => unreachable!(),
+            },
+        }
+    }
+
+    /// Removes the key, and answers its entry, if it was there.
+    pub fn remove(&mut self, key: &Key) -> Option<Entry>
+        ensures removed { result ≡ lookup key.now self.old.entries }
+        ensures entries { self.new.entries ≡ take_out key.now self.old.entries }
+        ensures spare { self.old.spare ≤ self.new.spare }
+    {
+        match place_of(&self.entries, key) {
+            Ok(at) => Some(self.entries.remove(at)),
+            Err(_) => None,
+        }
+    }
+
+    /// Removes all entries.
+    pub fn clear(&mut self)
+        ensures entries { self.new.entries ≡ [] }
+        ensures spare { self.old.spare ≤ self.new.spare }
+    {
+        self.entries.clear();
+    }
+}

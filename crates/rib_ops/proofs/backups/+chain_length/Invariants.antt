@@ -1,0 +1,4 @@
+use Rattle.rib_ops.proofs.backups.+chain_length.Given as goal
+
+abbrev pub decreases-chain_length : goal.decreases-chain_length
+decreases-chain_length l = l.most
