@@ -12,7 +12,7 @@ leads old (Message message) new h = λ more.
     messages_of-message old.limit (length message) old.held more h.0
     ∙ ap (λ (x : List ℕ). first_then x (messages_of old.limit (drop (5 + length message) old.held ++ more))) (sym h.1)
     ∙ ap (λ (x : Held). first_then message (messages_of x.limit (x.held ++ more))) (sym h.2)
-leads old NeedMore new h = h.1
-leads old Compressed new h = h.1
-leads old TooLong new h = h.1
-leads old NoMemory new h = h.1
+leads old NeedMore new h = ap (λ (x : Held). x.held) h.1
+leads old Compressed new h = ap (λ (x : Held). x.held) h.dead
+leads old TooLong new h = ap (λ (x : Held). x.held) h.dead
+leads old NoMemory new h = ap (λ (x : Held). x.held) h.dead

@@ -1,4 +1,4 @@
-ghost use Rattle.std.specs.Prelude.{◌≡◌, ◌++◌, ◌↔◌, [], IsTrue, OnOk, OnErr};
+ghost use Rattle.std.specs.Prelude.{◌≡◌, ◌↔◌, [], IsTrue, OnOk, OnErr, None};
 
 use crate::front::{Front, front_of};
 use bytes::{Bytes, BytesMut};
@@ -16,7 +16,15 @@ pub enum Cut {
     Compressed,
     /// The next flag byte is 0, and the length is above the limit. From then on it is the answer.
     TooLong,
-    /// There was no memory for a message, which is given by a later call.
+    /// There was no memory for a message. From then on it is the answer, whatever is fed.
+    NoMemory,
+}
+
+/// Why a cutter gives no message any more.
+#[derive(Clone, Copy, Debug, PartialEq, Eq)]
+pub enum Refusal {
+    Compressed,
+    TooLong,
     NoMemory,
 }
 
@@ -25,6 +33,7 @@ pub enum Cut {
 pub struct MessageCutter {
     limit: u32,
     held: BytesMut,
+    refusal: Option<Refusal>,
 }
 
 impl Model for MessageCutter {
@@ -32,52 +41,73 @@ impl Model for MessageCutter {
 
     ghost Value = { Held };
 
-    ghost view = { λ c. record { limit = c.limit; held = c.held.items } };
+    ghost view = { λ c. record { limit = c.limit; held = c.held.items; refusal = c.refusal } };
 }
 
 impl MessageCutter {
-    ghost use Rattle.grpc_framing.specs.Cuts.{Cuts, Leads};
+    ghost use Rattle.grpc_framing.specs.Cuts.{Cuts, Leads, StaysDead, fed};
 
     /// A cutter of a stream whose messages have at most `limit` bytes.
     pub fn new(alloc: Global, limit: u32) -> MessageCutter
-        ensures { result ≡ record { limit = limit; held = [] } }
+        ensures { result ≡ record { limit = limit; held = []; refusal = None } }
     {
         MessageCutter {
             limit,
             held: BytesMut::new(alloc),
+            refusal: None,
         }
     }
 
-    /// Takes the next piece of the stream. Without memory nothing changes.
+    /// Takes the next piece of the stream. A cutter that has refused drops it. Without memory
+    /// nothing changes.
     pub fn feed(&mut self, piece: Bytes) -> Result<(), AllocError>
-        ensures ok { OnOk result (self.new ≡ record self.old { held = self.old.held ++ piece }) }
+        ensures ok { OnOk result (self.new ≡ fed self.old piece) }
         ensures err { OnErr result (self.new ≡ self.old) }
     {
+        if self.refusal.is_some() {
+            return Ok(());
+        }
         self.held.extend_from_slice(piece.as_slice())
     }
 
     fn cut_front(&mut self) -> Cut
         ensures { Cuts self.old result self.new }
     {
+        match self.refusal {
+            Some(Refusal::Compressed) => return Cut::Compressed,
+            Some(Refusal::TooLong) => return Cut::TooLong,
+            Some(Refusal::NoMemory) => return Cut::NoMemory,
+            None => {}
+        }
         match front_of(self.limit, self.held.as_slice()) {
             Front::Message(size) => match self.held.freeze_to(5 + size) {
                 Ok(mut message) => {
                     message.advance(5);
                     Cut::Message(message)
                 }
-                Err(_) => Cut::NoMemory,
+                Err(_) => {
+                    self.refusal = Some(Refusal::NoMemory);
+                    Cut::NoMemory
+                }
             },
             Front::NeedMore => Cut::NeedMore,
-            Front::Compressed => Cut::Compressed,
-            Front::TooLong => Cut::TooLong,
+            Front::Compressed => {
+                self.refusal = Some(Refusal::Compressed);
+                Cut::Compressed
+            }
+            Front::TooLong => {
+                self.refusal = Some(Refusal::TooLong);
+                Cut::TooLong
+            }
         }
     }
 
-    /// Gives the next message. After `NeedMore` more can be fed, and after `NoMemory` the call can be
-    /// made again. Nothing but a message is taken from what is held.
+    /// Gives the next message. After `NeedMore` more can be fed; after a refusal the same refusal is
+    /// the answer forever. Nothing but a message is taken from what is held.
     pub fn next(&mut self) -> Cut
         ensures exact { Cuts self.old result self.new }
         ensures leads { Leads self.old result self.new }
+        ensures dead { StaysDead self.old result self.new }
     {
         self.cut_front()
     }

@@ -5,7 +5,7 @@ mod cutter;
 mod front;
 mod laws;
 
-pub use cutter::{Cut, MessageCutter};
+pub use cutter::{Cut, MessageCutter, Refusal};
 pub use front::{Front, front_of};
 pub use laws::{cut_goes_on, cut_is_whole, front_stays, written_messages_are_cut};
 
