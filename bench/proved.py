@@ -1,6 +1,6 @@
 """Builds a program of bench/ that is written in Rattle, over copies of crates, so that it can be timed.
 
-Its source is kept as NAME.rt.in, since the gate refuses sources outside the listed crates.
+Its sources are kept as NAME.in, since the gate refuses sources outside the listed crates.
 """
 import pathlib
 import resource
@@ -11,21 +11,23 @@ import tempfile
 TOP = pathlib.Path(__file__).resolve().parent.parent
 
 
-def build(source: pathlib.Path, crates: dict[str, str]) -> pathlib.Path:
+def build(source: pathlib.Path, crates: dict[str, str], others: dict[str, pathlib.Path] | None = None) -> pathlib.Path:
     """Proves and builds the program; `crates` has the repository's crates below it with their lines of crates.txt,
-    and under the name 'program' the crates that the program names. Answers the executable."""
+    and under the name 'program' the crates that the program names. `others` has the program's files beside main.rt,
+    by their places in its folder. Answers the executable."""
     room = pathlib.Path(tempfile.mkdtemp(prefix="gribi-bench-"))
-    for name in crates:
+    for name in (line.split()[0] for line in crates):
         if name != "program":
             shutil.copytree(TOP / "crates" / name, room / "crates" / name, ignore=shutil.ignore_patterns("out", "must-fail"))
-    program = room / "crates" / "program" / "src"
-    program.mkdir(parents=True)
-    shutil.copy(source, program / "main.rt")
+    program = room / "crates" / "program"
+    for place, kept in {"src/main.rt": source, **(others or {})}.items():
+        (program / place).parent.mkdir(parents=True, exist_ok=True)
+        shutil.copy(kept, program / place)
     (room / "crates.txt").write_text("".join(f"{name}: {line}\n" for name, line in crates.items()))
     (room / "HANDLES").write_text((TOP / "HANDLES").read_text())
     subprocess.run(["git", "init", "-q", str(room)], check=True)
-    subprocess.run(["rt", "run"], cwd=program.parent, stdout=subprocess.DEVNULL, check=True)
-    return program.parent / "out" / "program"
+    subprocess.run(["rt", "run"], cwd=program, stdout=subprocess.DEVNULL, check=True)
+    return program / "out" / "program"
 
 
 def run(words: list[str], given: bytes = b"") -> tuple[float, bytes]:

@@ -1,5 +1,5 @@
 -- What clauses say of a seat.
-use Rattle.std.specs.Prelude.{◌≡◌, ◌≢◌, ℕ, ◌^◌, ◌<◌, List, [], ◌∷◌, Option, Some}
+use Rattle.std.specs.Prelude.{◌≡◌, ◌≢◌, ℕ, ◌^◌, ◌<◌, List, [], ◌∷◌, ◌++◌, length, Option, Some}
 use Rattle.atomic_table.specs.Table.{Me}
 use Rattle.atomic_table.specs.Seated.{TableId}
 use Rattle.atomic_table.specs.declared.shared.Seat.{Seat}
@@ -7,8 +7,9 @@ use Rattle.table_lock.specs.declared.machine.Entry.{Entry}
 use Rattle.table_lock.specs.declared.view.Kind.TheVariants.{Spent, Note, Pass}
 use Rattle.table_lock.specs.declared.view.Phase.TheVariants.{Idle, Waits, Acts}
 use Rattle.table_lock.specs.declared.view.View.{View}
+use Rattle.table_lock.specs.declared.view.Last.{Last}
 use Rattle.table_lock.specs.declared.view.Desk.{Desk}
-use Rattle.table_lock.specs.Lock.{Turn}
+use Rattle.table_lock.specs.Lock.{entry, Turn}
 use Rattle.table_lock.specs.Passes.{PassView, NoteView}
 
 module _ {M C R G : Type 0} where
@@ -78,3 +79,26 @@ module _ {M C R G : Type 0} (setup : M → G) (stands : M → List (Entry C R) �
     pub few : ticket < 2 ^ 62
     pub holds : s.me.1 ≡ (0, Some desk) ∷ []
     pub turn : Turn setup stands lawful s.me.0 ticket s.me.0.seen desk
+
+module _ {M C R : Type 0} (stands : M → List (Entry C R) → Type 0) where
+  -- a slot with a machine that may act
+  pub record IsReady (slot : Option (Desk M C R)) : Type 0 where
+    pub desk : Desk M C R
+    pub has : slot ≡ Some desk
+    pub history : List (Entry C R)
+    pub stands_for : stands desk.machine history
+    pub few : length history < 2 ^ 62
+
+module _ {M C R G : Type 0} (setup : M → G) (stands : M → List (Entry C R) → Type 0) where
+  -- the machine in the slot did this call, and the slot tells which it was
+  pub record IsPerformed (old new : Option (Desk M C R)) (command : C) (reply : R) : Type 0 where
+    pub before : Desk M C R
+    pub after : Desk M C R
+    pub last : Last C R
+    pub was : old ≡ Some before
+    pub now : new ≡ Some after
+    pub last_is : after.last ≡ Some last
+    pub command_is : last.command.value ≡ command
+    pub reply_is : last.reply.value ≡ reply
+    pub kept : setup after.machine ≡ setup before.machine
+    pub event : (by : ℕ) (history : List (Entry C R)) → stands before.machine history → length history < 2 ^ 62 → stands after.machine (history ++ entry by command reply ∷ [])

@@ -1,17 +1,16 @@
 //! The steps of a seat. Word 0 is the next ticket, word 1 the ticket that is served, and the slot holds the machine.
 ghost use Rattle.std.specs.Prelude.{◌≡◌, ℕ, ◌+◌, ◌^◌, ◌<◌, ◌≤◌, [], ◌∷◌, Some, MatchResult};
 ghost use Rattle.table_lock.specs.Lock.{Sound, forked, newcomer, note_of, learned, merged, handed_on};
-ghost use Rattle.table_lock.specs.Seats.{IsAt, IsSameSeat, IsIdle, IsRoot, IsNote, IsKnower, IsHolding, IsActing, glances, draws, Took};
+ghost use Rattle.table_lock.specs.Seats.{IsAt, IsSameSeat, IsIdle, IsRoot, IsNote, IsKnower, IsHolding, IsActing, glances, draws, Took, IsReady, IsPerformed};
 
 use crate::lock::Spent;
 use crate::machine::Machine;
 use crate::plays::{
-    Draw, Fork, Glance, HandOn, Learn, Look, Merge, SeatOf, Settle, SharedOf, Tell,
+    Draw, Fork, Glance, HandOn, Learn, Look, Merge, SeatOf, Settle, SharedOf, SlotOf, Tell,
 };
-use crate::view::{Desk, Last};
+use crate::view::Last;
 use std::snapshot::Snapshot;
 use std::sync::Wait;
-use std::thread;
 
 // So many tickets a lock has.
 const MOST: u64 = 1 << 62;
@@ -19,6 +18,9 @@ const MOST: u64 = 1 << 62;
 const TICKET: usize = 0;
 
 const SERVING: usize = 1;
+
+// So often a thread looks for its turn before it sleeps: a short call is over by then.
+const LOOKS: u32 = 200;
 
 // Looks at the next ticket.
 pub(crate) fn glance<M: Machine>(table: &SharedOf<M>, seat: &mut SeatOf<M>) -> u64
@@ -52,7 +54,8 @@ pub(crate) fn draw<M: Machine, R: Wait>(
     unreachable!()
 }
 
-// Waits until the pass's ticket is served. The pass then holds the machine.
+// Waits until the pass's ticket is served. The pass then holds the machine. A thread that sleeps drew its ticket before
+// it looked, so who hands the lock on later finds the ticket drawn, and wakes it.
 pub(crate) fn await_turn<M: Machine, R: Wait>(
     rt: &R,
     table: &SharedOf<M>,
@@ -63,16 +66,37 @@ pub(crate) fn await_turn<M: Machine, R: Wait>(
     ensures seat { IsSameSeat seat.old seat.new }
     ensures turn { Took M.setup M.stands M.lawful ticket seat.old.me seat.new.me }
 {
+    let mut looks = 0;
     for _ in rt.forever() {
-        if table.load::<Look<M>>(seat, SERVING) == ticket {
+        let served = table.load::<Look<M>>(seat, SERVING);
+        if served == ticket {
             return;
         }
-        thread::yield_now();
+        if looks < LOOKS {
+            looks += 1;
+        } else {
+            table.park(rt, SERVING, (served % (1 << 32)) as u32);
+        }
     }
     unreachable!()
 }
 
-// Lets the machine act, and hands the lock on. The snapshots tell the rule which call was made.
+// Lets the machine in the slot act, where it lies. The snapshots tell the rule which call was made.
+fn perform<M: Machine>(slot: &mut SlotOf<M>, command: M::Command) -> M::Reply
+    requires { IsReady M.stands slot.old }
+    ensures { IsPerformed M.setup M.stands slot.old slot.new command result }
+{
+    let Some(desk) = slot else { unreachable!() };
+    let asked = Snapshot::of(&command);
+    let reply = desk.machine.act(command);
+    desk.last = Some(Last {
+        command: asked,
+        reply: Snapshot::of(&reply),
+    });
+    reply
+}
+
+// Lets the machine act, and hands the lock on.
 pub(crate) fn act<M: Machine>(
     table: &SharedOf<M>,
     seat: &mut SeatOf<M>,
@@ -82,22 +106,20 @@ pub(crate) fn act<M: Machine>(
     ensures seat { IsSameSeat seat.old seat.new }
     ensures called { (seat.new.me ≡ (handed_on seat.old.me.0 command result, [])) × ((key : M.Setup) → seat.old.me.0.setup ≡ Some key → M.lawful key seat.new.me.0.seen) }
 {
-    let Some(desk) = table.exchange(seat, 0, None) else {
-        unreachable!()
-    };
-    let Desk {
-        mut machine,
-        last: _,
-    } = desk;
-    let asked = Snapshot::of(&command);
-    let reply = machine.act(command);
-    let last = Some(Last {
-        command: asked,
-        reply: Snapshot::of(&reply),
-    });
-    table.exchange(seat, 0, Some(Desk { machine, last }));
-    table.fetch_add::<HandOn>(seat, SERVING, 1);
+    let slot = seat.slot_mut(table, 0);
+    let reply = perform::<M>(slot, command);
+    let served = table.fetch_add::<HandOn>(seat, SERVING, 1);
+    wake(table, served);
     reply
+}
+
+// Wakes those who wait, where a ticket after the one that was served is drawn.
+fn wake<M: Machine>(table: &SharedOf<M>, served: u64)
+    requires { table.now.table_id.words ≡ 2 }
+{
+    if table.peek(TICKET).wrapping_sub(served) > 1 {
+        table.wake_all(SERVING);
+    }
 }
 
 // Asks what the rule says of the seat's view.
