@@ -1,0 +1,7 @@
+pub mod Courses
+pub mod Streams
+pub mod Feeding
+pub mod Sinks
+pub mod Pieces
+pub mod Runs
+pub mod Closing

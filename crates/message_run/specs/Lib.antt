@@ -1,0 +1,5 @@
+pub mod Answering
+pub mod Outcomes
+pub mod Written
+pub mod Runs
+pub mod Reading

@@ -1,0 +1,59 @@
+-- What a run answers, takes and writes.
+use Rattle.std.specs.Prelude.{◌≡◌, ◌⊎◌, ℕ, List, [], ◌++◌, Option, Some, IfSome}
+use Rattle.std.specs.Option.{option_map}
+use Rattle.message_run.specs.Answering.{Answering}
+use Rattle.message_run.specs.Outcomes.{outcome_of, output_of, status_of, done_of}
+use Rattle.message_run.specs.Written.{Wrote, WrotePart}
+
+-- The run has closed: the input was read and answered to its end, it can't be read, or a reply ended the stream.
+abbrev pub IsClosing : ℕ → Type 0
+IsClosing status = (status ≡ 0) ⊎ (status ≡ 3) ⊎ (status ≡ 7)
+
+abbrev pub IsStatus : ℕ → Type 0
+IsStatus status = (status ≡ 0) ⊎ (status ≡ 3) ⊎ (status ≡ 4) ⊎ (status ≡ 5) ⊎ (status ≡ 6) ⊎ (status ≡ 7)
+
+-- the bytes that a source told as taken and as left, before and after, and those that a sink told as placed
+pub record Told : Type 0 where
+  pub taken_before : Option (List ℕ)
+  pub taken_after : Option (List ℕ)
+  pub left_before : Option (List ℕ)
+  pub left_after : Option (List ℕ)
+  pub before : Option (List ℕ)
+  pub after : Option (List ℕ)
+
+-- A run with this status, of a server that answers so. What it has done tells `has_done`, and with what it has left `has_left`.
+pub record Runs (f : Answering) (has_done has_left : List (List ℕ) → Type 0) (status : ℕ) (told : Told) : Type 0 where
+  -- the bytes that the run took
+  pub taken : List ℕ
+  pub taken_is : told.taken_after ≡ option_map (λ given. given ++ taken) told.taken_before
+  pub left_is : told.left_before ≡ option_map (λ rest. taken ++ rest) told.left_after
+  -- 0, 3 and 7: they come to that status, all that is to be written for them was, and the server has left
+  pub whole : IsClosing status → (status_of f taken ≡ status) × Wrote told.before (output_of f taken) told.after × has_left (done_of f taken)
+  -- and what is left of the input changes nothing
+  pub still : IsClosing status → (rest : List ℕ) → told.left_after ≡ Some rest → outcome_of f (taken ++ rest) ≡ outcome_of f taken
+  -- 4: the server has done the messages of the bytes taken
+  pub failed : status ≡ 4 → has_done (done_of f taken)
+  -- 0: nothing is left
+  pub over : status ≡ 0 → IfSome told.left_after (λ rest. rest ≡ [])
+  -- always: what was written is the first of what is to be written for the bytes taken
+  pub part : WrotePart told.before (output_of f taken) told.after
+
+-- The same of a source that tells its whole input.
+pub record RunsOver (f : Answering) (has_done has_left : List (List ℕ) → Type 0) (status : ℕ) (input : List ℕ) (told : Told) : Type 0 where
+  pub taken : List ℕ
+  pub rest : List ℕ
+  pub input_is : input ≡ taken ++ rest
+  pub taken_is : told.taken_after ≡ option_map (λ given. given ++ taken) told.taken_before
+  pub left_is : told.left_after ≡ Some rest
+  -- 0: the input is read and answered to its end, nothing of it is left, and all of its output was written
+  pub done : status ≡ 0 → (status_of f input ≡ 0) × (rest ≡ []) × Wrote told.before (output_of f input) told.after
+  -- 3: the input can't be read, and all of its output was written, the last item included
+  pub unread : status ≡ 3 → (status_of f input ≡ 3) × Wrote told.before (output_of f input) told.after
+  -- 7: a reply ended the stream, and all of its output was written, the last item included
+  pub refused : status ≡ 7 → (status_of f input ≡ 7) × Wrote told.before (output_of f input) told.after
+  -- 0, 3 and 7: the server has left, with the messages of the input up to its end
+  pub server : IsClosing status → has_left (done_of f input)
+  -- 4: the server has done the messages of the bytes taken
+  pub failed : status ≡ 4 → has_done (done_of f taken)
+  -- always: what was written is the first of what is to be written for the bytes taken
+  pub part : WrotePart told.before (output_of f taken) told.after
