@@ -1,0 +1,61 @@
+-- The examples compute.
+use Rattle.std.proofs.Common.{◌≡◌, true, false, [], refl}
+use Rattle.grpc_framing.specs.Framing.{item_at, front_at, messages_upto, messages_of}
+use Rattle.h2_exchange.specs.Examples.{LoweredWindow, FirstFrames, StreamLife, RefusedStream, StreamNumbers, SecondHead, Stops, QuietFrames, BadHeads, SpelledCalls, SpelledAnswers, FullServer, Responses}
+
+pub lowered_window : LoweredWindow
+lowered_window = record { ten = refl; below_zero = refl; nothing = refl; five = refl }
+
+pub first_frames : FirstFrames
+first_frames = record { server = refl; client = refl }
+
+pub stream_life : StreamLife
+stream_life = record { idle = refl; not_live = refl; begins = refl; next_is_idle = refl; half = refl; may_answer = refl; ends = refl; answered_first = refl; closed = refl; cut_head_ends_nothing = refl; whole_head_ends = refl; reset = refl; skipped = refl; skipped_not_live = refl }
+
+pub refused_stream : RefusedStream
+unfolding item_at front_at messages_upto messages_of
+refused_stream = record { refused = refl; malformed_first = refl; taken = refl; not_by_a_client = refl; event = refl }
+
+pub stream_numbers : StreamNumbers
+stream_numbers = record { even = refl; data_on_idle = refl; data_on_zero = refl; settings_on_one = refl; head_to_client = refl; answer_to_client = refl; skipped = refl }
+
+pub second_head : SecondHead
+unfolding item_at front_at messages_upto messages_of
+second_head = record { no_end = refl; as_trailers = refl; in_two_frames = refl; malformed = refl; behind_the_end = refl }
+
+pub stops : Stops
+unfolding item_at front_at messages_upto messages_of
+stops = record { no_settings_first = refl; half_a_setting = refl; data_on_idle = refl; update_of_nothing = refl; large_update = refl; bad_index = refl; long_list = refl; lone_continuation = refl; inside_a_block = refl; long_padding = refl; large_window = refl; push_promise = refl; many_frames = refl; enough_frames = refl; raised_window = refl; nothing = refl }
+
+pub quiet_frames : QuietFrames
+unfolding item_at front_at messages_upto messages_of
+quiet_frames = record { skipped = refl; behind_an_error = refl; reset_by_client = refl; trailers_to_client = refl; goes_away = refl }
+
+pub bad_heads : BadHeads
+bad_heads = record { request_is_sound = refl; response_is_sound = refl; no_method = refl; late = refl; doubled = refl; unknown = refl; upper_case = refl; line_break = refl; upgrade = refl; te = refl; trailers_are_sound = refl; pseudo_trailer = refl }
+
+pub spelled_calls : SpelledCalls
+unfolding item_at front_at messages_upto messages_of
+spelled_calls = record { two_messages = refl; cut_message = refl; flag = refl; long_message = refl; refused_head = refl; reset = refl }
+
+pub spelled_answers : SpelledAnswers
+unfolding item_at front_at messages_upto messages_of
+spelled_answers = record { message = refl; end_alone = refl; flag = refl; no_trailers = refl }
+
+pub full_server : FullServer
+full_server = record { taken = refl; refused = refl }
+
+no_truth : false ≡ true → ⊥
+no_truth e = cc
+
+pub responses : Responses
+responses = record {
+  whole = (refl, ([], refl, (refl, refl, tt)));
+  then_reset = (refl, ([], refl, (refl, refl, tt)));
+  unfinished = (refl, ([], refl, (refl, refl)));
+  reset = (refl, ([], refl, (refl, refl)));
+  head_alone = (refl, refl, tt);
+  other_stream = refl;
+  no_head = λ h. absurd (no_truth h.0);
+  behind_the_end = λ h. h.2;
+}

@@ -1,0 +1,5 @@
+pub mod Computed
+pub mod Looking
+pub mod Ordering
+pub mod Staying
+pub mod Steps

@@ -1,0 +1,65 @@
+-- Laws over exchanges that go on.
+use Rattle.std.specs.Prelude.{◌≡◌, ◌<◌, ◌≤◌, length, ℕ, ◌+◌, ◌&&◌, ◌||◌, true, false, List, [], ◌∷◌, ◌++◌, Some, None, option_to_list, Result, if◌then◌else◌, ◌==◌}
+use Rattle.h2_frames.specs.declared.frame.Frame.{Frame}
+use Rattle.hpack_tables.specs.declared.field.Field.{Field}
+use Rattle.h2_exchange.specs.declared.limits.H2Limits.{H2Limits}
+use Rattle.h2_exchange.specs.declared.role.Role.{Role}
+use Rattle.h2_exchange.specs.Blocks.{open_block, blocks, left_open, completed}
+use Rattle.h2_exchange.specs.Calls.{calls, answers}
+use Rattle.h2_exchange.specs.Content.{Outcome}
+use Rattle.h2_exchange.specs.Events.{Event, events_of}
+use Rattle.h2_exchange.specs.Exchange.{Step, received, sent_text}
+use Rattle.h2_exchange.specs.Frames.{stream_of, is_window_update, increment_of, counted}
+use Rattle.h2_exchange.specs.Order.{Piece, gots, puts, end_of, due_from_peer, due_from_self, InOrder}
+use Rattle.h2_exchange.specs.Sending.{IsFront}
+use Rattle.h2_exchange.specs.Stops.{Stop, stop_at, stop_of, events}
+use Rattle.h2_exchange.specs.Streams.{begins, is_begun, is_over}
+use Rattle.h2_exchange.specs.Windows.{granted_on, spent_on, spent}
+
+-- the events of an exchange stay where it goes on
+abbrev pub EventsStay : Type 0
+EventsStay = (role : Role) (limits : H2Limits) (heads : List Outcome) (x more : List Step) → IsFront (events role limits heads x) (events role limits heads (x ++ more))
+
+-- what stopped an exchange stays what stops it, and nothing comes behind
+abbrev pub StopsStay : Type 0
+StopsStay =
+    (role : Role) (limits : H2Limits) (heads : List Outcome) (x more : List Step) (stop : Stop) → stop_of role limits heads x ≡ Some stop →
+    (stop_of role limits heads (x ++ more) ≡ Some stop) × (events role limits heads (x ++ more) ≡ events role limits heads x)
+
+-- one more frame adds its events, where nothing stops
+abbrev pub EventsGoOn : Type 0
+EventsGoOn =
+    (role : Role) (limits : H2Limits) (heads : List Outcome) (x : List Step) (s : Step) → stop_of role limits heads x ≡ None → stop_at role limits heads x s ≡ None →
+    (stop_of role limits heads (x ++ s ∷ []) ≡ None) × (events role limits heads (x ++ s ∷ []) ≡ events role limits heads x ++ events_of role limits heads x s)
+
+-- calls and answers stay where more events come
+abbrev pub CallsStay : Type 0 → Type 0 → Type 0
+CallsStay M E =
+    (method_of : List Field → Result M E) (compressed too_long truncated : E) (es more : List Event) →
+    IsFront (calls method_of compressed too_long truncated es) (calls method_of compressed too_long truncated (es ++ more))
+
+abbrev pub AnswersStay : Type 0 → Type 0
+AnswersStay E = (status_of : List Field → E) (unknown : E) (es more : List Event) → IsFront (answers status_of unknown es) (answers status_of unknown (es ++ more))
+
+-- a stream begins once, and once it is over it stays so
+pub record StreamsEnd : Type 0 where
+  pub begun_push : (role : Role) (x : List Step) (s : Step) (id : ℕ) → is_begun role (x ++ s ∷ []) id ≡ (is_begun role x id || begins role id x s)
+  pub begins_once : (role : Role) (x : List Step) (s : Step) (id : ℕ) → begins role id x s ≡ true → is_begun role x id ≡ false
+  pub over_stays : (x more : List Step) (id : ℕ) → is_over x id ≡ true → is_over (x ++ more) id ≡ true
+
+-- what one more frame of a side adds to the sums of its windows
+pub record WindowsAdd : Type 0 where
+  pub granted_push : (id : ℕ) (fs : List Frame) (f : Frame) → granted_on id (fs ++ f ∷ []) ≡ granted_on id fs + (if is_window_update f && stream_of f == id then increment_of f else 0)
+  pub spent_on_push : (id : ℕ) (fs : List Frame) (f : Frame) → spent_on id (fs ++ f ∷ []) ≡ spent_on id fs + (if stream_of f == id then counted f else 0)
+  pub spent_push : (fs : List Frame) (f : Frame) → spent (fs ++ f ∷ []) ≡ spent fs + counted f
+
+-- what one more frame of a side does to its header blocks
+pub record BlocksAdd : Type 0 where
+  pub open_push : (fs : List Frame) (f : Frame) → open_block (fs ++ f ∷ []) ≡ left_open (open_block fs) f
+  pub blocks_push : (fs : List Frame) (f : Frame) → blocks (fs ++ f ∷ []) ≡ blocks fs ++ option_to_list (completed fs f)
+
+-- The order of received and sent frames lasts: through a further call of the link, where all received frames were given
+-- before it, and through further frames, where all that was placed was sent before them.
+pub record OrderLasts : Type 0 where
+  pub told : (role : Role) (ps : List Piece) (p : Piece) (x : List Step) → (0 < length (received x) → end_of (due_from_peer role) (received x) ≤ length (gots ps)) → InOrder role ps x → InOrder role (ps ++ p ∷ []) x
+  pub more : (role : Role) (ps : List Piece) (x more : List Step) → length (puts ps) ≤ length (due_from_self role ++ sent_text x) → InOrder role ps x → InOrder role ps (x ++ more)

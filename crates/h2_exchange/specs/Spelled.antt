@@ -1,0 +1,112 @@
+-- What the frames of a side spell on a stream, as its peer reads them, against what the stream is owed.
+use Rattle.std.specs.Prelude.{◌≡◌, ℕ, ◌==◌, ◌&&◌, Bool, true, false, List, [], ◌∷◌, ◌++◌, length, slice_get, Option, Some, None, bytes_eq, find, map, Ok, codes, if◌then◌else◌}
+use Rattle.grpc_framing.specs.declared.front.Front.TheVariants.{NeedMore}
+use Rattle.grpc_framing.specs.Framing.{messages_of, item}
+use Rattle.h2_frames.specs.declared.code.ErrorCode.{ErrorCode}
+use Rattle.h2_frames.specs.declared.frame.Frame.{Frame}
+use Rattle.hpack_tables.specs.declared.field.Field.{Field}
+use Rattle.h2_exchange.specs.Blocks.{Block, blocks, completed, data_of}
+use Rattle.h2_exchange.specs.Content.{AreRead}
+use Rattle.h2_exchange.specs.Exchange.{Step, sent, collect}
+use Rattle.h2_exchange.specs.Frames.{stream_of, is_data, is_rst_stream, has_end_stream, code_of}
+
+-- ---- the parts of a stream
+
+pub data Part : Type 0 where
+  Fields : (fields : List Field) (last : Bool) → Part
+  Piece : (bytes : List ℕ) (last : Bool) → Part
+  Stopped : (why : ErrorCode) → Part
+
+abbrev pub read_part : Bool → Option (List Field) → List Part
+read_part last None = []
+read_part last (Some fields) = Fields fields last ∷ []
+
+abbrev pub block_part : ℕ → List (List Field) → List Frame → Option Block → List Part
+block_part id heads past None = []
+block_part id heads past (Some b) = if b.stream == id then read_part b.last (slice_get heads (length (blocks past))) else []
+
+abbrev pub part_of : ℕ → List (List Field) → List Frame → Frame → List Part
+part_of id heads past f =
+    if is_data f && stream_of f == id then Piece (data_of f) (has_end_stream f) ∷ []
+    else if is_rst_stream f && stream_of f == id then Stopped (code_of f) ∷ []
+    else block_part id heads past (completed past f)
+
+-- what stands on a stream, frame after frame
+abbrev pub parts : ℕ → List (List Field) → List Frame → List Part
+parts id heads fs = collect (part_of id heads) [] fs
+
+-- ---- a response
+
+-- how a stream ends: not yet, by trailers, or by a reset
+pub data Close : Type 0 where
+  Unclosed : Close
+  Trailers : List Field → Close
+  Cancelled : Close
+
+-- Behind an end stands nothing, or the reset of a stream that the client had not ended.
+abbrev pub IsOver : List Part → Type 0
+IsOver [] = Unit {0}
+IsOver (Stopped why ∷ []) = Unit {0}
+IsOver other = ⊥
+
+-- Behind a response head: DATA, then trailers or a reset.
+abbrev pub IsBody : List Part → List ℕ → Close → Type 0
+IsBody [] bytes close = (bytes ≡ []) × (close ≡ Unclosed)
+IsBody (Piece piece false ∷ ps) bytes close = (more : List ℕ) × (bytes ≡ piece ++ more) × IsBody ps more close
+IsBody (Fields fields true ∷ ps) bytes close = (bytes ≡ []) × (close ≡ Trailers fields) × IsOver ps
+IsBody (Stopped why ∷ []) bytes close = (bytes ≡ []) × (close ≡ Cancelled)
+IsBody other bytes close = ⊥
+
+abbrev pub has_value : List ℕ → List ℕ → List Field → Bool
+has_value name value fields = is_value (find (λ f. bytes_eq f.name name) fields)
+  where
+    is_value : Option Field → Bool
+    is_value None = false
+    is_value (Some f) = bytes_eq f.value value
+
+abbrev pub is_response_head : List Field → Bool
+is_response_head fields = has_value (codes ":status") (codes "200") fields && has_value (codes "content-type") (codes "application/grpc") fields
+
+-- A response: nothing yet, a reset, a head alone that is the end too, or a head and a body.
+abbrev pub IsResponse : List Part → List ℕ → Close → Type 0
+IsResponse [] bytes close = (bytes ≡ []) × (close ≡ Unclosed)
+IsResponse (Stopped why ∷ []) bytes close = (bytes ≡ []) × (close ≡ Cancelled)
+IsResponse (Fields fields true ∷ ps) bytes close = (bytes ≡ []) × (close ≡ Trailers fields) × IsOver ps
+IsResponse (Fields fields false ∷ ps) bytes close = (is_response_head fields ≡ true) × IsBody ps bytes close
+IsResponse other bytes close = ⊥
+
+-- ---- what is owed
+
+-- an end of a stream: a gRPC status, or a HTTP status alone, as the layer above has them
+pub data Item (E : Type 0) : Type 0 where
+  Message : List ℕ → Item E
+  Finish : E → Item E
+
+-- The messages, the cut rest and the end are a first part of the items: a rest is the front of the next message, and
+-- an end stands only behind all of them.
+abbrev pub IsFrontOf : {E : Type 0} → List (List ℕ) → List ℕ → Option E → List (Item E) → Type 0
+IsFrontOf (m ∷ ms) rest end (Message n ∷ items) = (m ≡ n) × IsFrontOf ms rest end items
+IsFrontOf (m ∷ ms) rest end other = ⊥
+IsFrontOf [] rest None (Message n ∷ items) = (more : List ℕ) × (rest ++ more ≡ item n)
+IsFrontOf [] rest None other = rest ≡ []
+IsFrontOf [] rest (Some end) (Finish e ∷ []) = (rest ≡ []) × (end ≡ e)
+IsFrontOf [] rest (Some end) other = ⊥
+
+module _ {E : Type 0} (end_of : List Field → E) where
+  abbrev pub end_by : Close → Option E
+  end_by (Trailers fields) = Some (end_of fields)
+  end_by other = None
+
+  -- What frames spell on a stream, once their blocks are read: whole messages, a cut rest, and an end.
+  pub record Spells (heads : List (List Field)) (frames : List Frame) (id : ℕ) (messages : List (List ℕ)) (rest : List ℕ) (end : Option E) : Type 0 where
+    pub bytes : List ℕ
+    pub close : Close
+    pub response : IsResponse (parts id heads frames) bytes close
+    pub cut : messages_of 4294967295 bytes ≡ record { messages = messages; rest = rest; ending = NeedMore }
+    pub end_is : end ≡ end_by close
+
+  -- The sent frames can be read, and spell on each stream a first part of what it is owed.
+  abbrev pub AnswersBegin : List Step → (ℕ → List (Item E)) → Type 0
+  AnswersBegin x owed =
+      (heads : List (List Field)) × AreRead (sent x) (map Ok heads)
+      × ((id : ℕ) → (messages : List (List ℕ)) × (rest : List ℕ) × (end : Option E) × Spells heads (sent x) id messages rest end × IsFrontOf messages rest end (owed id))

@@ -1,0 +1,47 @@
+//! Laws over exchanges that go on.
+ghost use Rattle.h2_exchange.specs.Laws.{AnswersStay, BlocksAdd, CallsStay, EventsGoOn, EventsStay, OrderLasts, StopsStay, StreamsEnd, WindowsAdd};
+
+/// The events of an exchange begin those of the exchange that goes on.
+pub fn events_stay()
+    ensures { EventsStay }
+{}
+
+/// What stopped an exchange is what stops it for good.
+pub fn stops_stay()
+    ensures { StopsStay }
+{}
+
+/// One more frame adds its own events.
+pub fn events_go_on()
+    ensures { EventsGoOn }
+{}
+
+/// The calls that events spell begin those that more events spell.
+pub fn calls_stay<M, E>()
+    ensures { CallsStay M E }
+{}
+
+/// The answers that events spell begin those that more events spell.
+pub fn answers_stay<E>()
+    ensures { AnswersStay E }
+{}
+
+/// A stream begins once, and does not live again.
+pub fn streams_end()
+    ensures { StreamsEnd }
+{}
+
+/// What one more frame adds to windows.
+pub fn windows_add()
+    ensures { WindowsAdd }
+{}
+
+/// What one more frame does to header blocks.
+pub fn blocks_add()
+    ensures { BlocksAdd }
+{}
+
+/// The order of received and sent frames lasts.
+pub fn order_lasts()
+    ensures { OrderLasts }
+{}

@@ -1,0 +1,6 @@
+/// Which side of a connection this is (RFC 9113, section 2.2).
+#[derive(Clone, Copy, Debug, PartialEq, Eq)]
+pub enum Role {
+    Client,
+    Server,
+}

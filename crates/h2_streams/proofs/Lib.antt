@@ -1,0 +1,11 @@
+pub mod Lists
+pub mod Standing
+pub mod SentFrames
+pub mod Resets
+pub mod Sends
+pub mod Ends
+pub mod Begins
+pub mod SettingsRead
+pub mod Judged
+pub mod Quiet
+pub mod Credits

@@ -1,0 +1,161 @@
+-- Lists of streams that differ at one of them.
+use Rattle.std.proofs.Common.{◌≡◌, ℕ, Bool, true, false, not, ◌&&◌, ◌||◌, List, [], ◌∷◌, ◌++◌, map, Option, Some, None, refl, sym, ap, ◌∙◌, arith, eq-eqb}
+use Rattle.std.specs.Prelude.{filter, find, ◌==◌, if◌then◌else◌}
+use Rattle.std.specs.List.{list_any}
+use Rattle.std.proofs.lemmas.Bool.Decides.{nat_tests}
+use Rattle.std.proofs.lemmas.List.Elements.{filter-append}
+use Rattle.std.proofs.lemmas.List.{map-append}
+use Rattle.h2_streams.specs.declared.live.Stream.{Stream}
+use Rattle.h2_streams.specs.Live.{is_stream, replaced, without}
+
+pub self_eq : (k : ℕ) → (k == k) ≡ true
+self_eq k = eq-eqb k k refl
+
+pub eqb_is : (a b : ℕ) → (a == b) ≡ true → a ≡ b
+eqb_is a b e = grind (arith, nat_tests)
+
+eqb_isnt : (a b : ℕ) → (a == b) ≡ false → a ≡ b → ⊥
+eqb_isnt a b e f = grind (arith, nat_tests)
+
+-- what holds of a number and of every other one
+pub by_number : (P : ℕ → Type 0) (k id : ℕ) → (id ≡ k → P id) → ((id ≡ k → ⊥) → P id) → P id
+by_number P k id here there = by (id == k) refl
+  where
+    by : (b : Bool) → (id == k) ≡ b → P id
+    by true e = here (eqb_is id k e)
+    by false e = there (eqb_isnt id k e)
+
+-- ---- one stream replaced, left out, or added
+
+module _ (p q : ℕ → Bool) (g h : ℕ → Stream) (names_g : (id : ℕ) → (g id).id ≡ id) where
+  abbrev SameBut : ℕ → Type 0
+  SameBut k = (id : ℕ) → (id ≡ k → ⊥) → (q id ≡ p id) × (h id ≡ g id)
+
+  cell : (b c : Bool) (s t : Stream) (xs ys : List Stream) → b ≡ c → s ≡ t → xs ≡ ys → (if b then s ∷ xs else xs) ≡ (if c then t ∷ ys else ys)
+  cell b c s t xs ys e f g = cc
+
+  other_stays : (k id : ℕ) (new s : Stream) → s.id ≡ id → (id ≡ k → ⊥) → (if is_stream k s then new else s) ≡ s
+  other_stays k id new s e f = by (s.id == k) refl
+    where
+      by : (b : Bool) → (s.id == k) ≡ b → (if b then new else s) ≡ s
+      by true t = absurd (f (sym e ∙ eqb_is s.id k t))
+      by false t = refl
+
+  this_changes : (k id : ℕ) (new s : Stream) → s.id ≡ id → id ≡ k → (if is_stream k s then new else s) ≡ new
+  this_changes k id new s e f = ap (λ (b : Bool). if b then new else s) (ap (λ (n : ℕ). n == k) (e ∙ f) ∙ self_eq k)
+
+  map_if : (b : Bool) (s : Stream) (xs : List Stream) (f : Stream → Stream) → map f (if b then s ∷ xs else xs) ≡ (if b then f s ∷ map f xs else map f xs)
+  map_if true s xs f = refl
+  map_if false s xs f = refl
+
+  map_kept : (b : Bool) (r : ℕ → Stream) (id : ℕ) (ids : List ℕ) → map r (if b then id ∷ ids else ids) ≡ (if b then r id ∷ map r ids else map r ids)
+  map_kept true r id ids = refl
+  map_kept false r id ids = refl
+
+  pub replaced_is : (k : ℕ) → SameBut k → q k ≡ p k → (ids : List ℕ) → map h (filter q ids) ≡ replaced k (h k) (map g (filter p ids))
+  replaced_is k same alive [] = refl
+  replaced_is k same alive (id ∷ ids) =
+      map_kept (q id) h id (filter q ids)
+      ∙ by_number (λ id. (if q id then h id ∷ map h (filter q ids) else map h (filter q ids)) ≡ (if p id then (if is_stream k (g id) then h k else g id) ∷ replaced k (h k) (map g (filter p ids)) else replaced k (h k) (map g (filter p ids)))) k id
+      (λ e. cell (q id) (p id) (h id) (if is_stream k (g id) then h k else g id) (map h (filter q ids)) (replaced k (h k) (map g (filter p ids))) (ap q e ∙ alive ∙ ap p (sym e)) (ap h e ∙ sym (this_changes k id (h k) (g id) (names_g id) e)) (replaced_is k same alive ids))
+      (λ f. cell (q id) (p id) (h id) (if is_stream k (g id) then h k else g id) (map h (filter q ids)) (replaced k (h k) (map g (filter p ids))) (same id f).0 ((same id f).1 ∙ sym (other_stays k id (h k) (g id) (names_g id) f)) (replaced_is k same alive ids))
+      ∙ sym (map_if (p id) (g id) (map g (filter p ids)) (λ s. if is_stream k s then h k else s))
+      ∙ ap (replaced k (h k)) (sym (map_kept (p id) g id (filter p ids)))
+
+  left_out : (b : Bool) (k : ℕ) (s : Stream) (xs : List Stream) → without k (if b then s ∷ xs else xs) ≡ (if b then (if not (is_stream k s) then s ∷ without k xs else without k xs) else without k xs)
+  left_out true k s xs = refl
+  left_out false k s xs = refl
+
+  gone : (b c : Bool) (s t : Stream) (xs ys : List Stream) → b ≡ false → not c ≡ false → xs ≡ ys → (d : Bool) → (if b then s ∷ xs else xs) ≡ (if d then (if not c then t ∷ ys else ys) else ys)
+  gone b c s t xs ys e f g true = cc
+  gone b c s t xs ys e f g false = cc
+
+  kept : (b c d : Bool) (s t : Stream) (xs ys : List Stream) → b ≡ d → c ≡ false → s ≡ t → xs ≡ ys → (if b then s ∷ xs else xs) ≡ (if d then (if not c then t ∷ ys else ys) else ys)
+  kept true c true s t xs ys e f g k = cc
+  kept true c false s t xs ys e f g k = absurd cc
+  kept false c true s t xs ys e f g k = absurd cc
+  kept false c false s t xs ys e f g k = cc
+
+  isnt_stream : (k id : ℕ) (s : Stream) → s.id ≡ id → (id ≡ k → ⊥) → is_stream k s ≡ false
+  isnt_stream k id s e f = by (s.id == k) refl
+    where
+      by : (b : Bool) → (s.id == k) ≡ b → b ≡ false
+      by true t = absurd (f (sym e ∙ eqb_is s.id k t))
+      by false t = refl
+
+  is_this : (k id : ℕ) (s : Stream) → s.id ≡ id → id ≡ k → not (is_stream k s) ≡ false
+  is_this k id s e f = ap not (ap (λ (n : ℕ). n == k) (e ∙ f) ∙ self_eq k)
+
+  pub without_is : (k : ℕ) → SameBut k → q k ≡ false → (ids : List ℕ) → map h (filter q ids) ≡ without k (map g (filter p ids))
+  without_is k same dead [] = refl
+  without_is k same dead (id ∷ ids) =
+      map_kept (q id) h id (filter q ids)
+      ∙ by_number (λ id. (if q id then h id ∷ map h (filter q ids) else map h (filter q ids)) ≡ (if p id then (if not (is_stream k (g id)) then g id ∷ without k (map g (filter p ids)) else without k (map g (filter p ids))) else without k (map g (filter p ids)))) k id
+      (λ e. gone (q id) (is_stream k (g id)) (h id) (g id) (map h (filter q ids)) (without k (map g (filter p ids))) (ap q e ∙ dead) (is_this k id (g id) (names_g id) e) (without_is k same dead ids) (p id))
+      (λ f. kept (q id) (is_stream k (g id)) (p id) (h id) (g id) (map h (filter q ids)) (without k (map g (filter p ids))) (same id f).0 (isnt_stream k id (g id) (names_g id) f) (same id f).1 (without_is k same dead ids))
+      ∙ sym (left_out (p id) k (g id) (map g (filter p ids)))
+      ∙ ap (without k) (sym (map_kept (p id) g id (filter p ids)))
+
+  -- a list without that one
+  pub untouched_is : (k : ℕ) → SameBut k → (ids : List ℕ) → list_any (λ id. id == k) ids ≡ false → map h (filter q ids) ≡ map g (filter p ids)
+  untouched_is k same [] e = refl
+  untouched_is k same (id ∷ ids) e =
+      map_kept (q id) h id (filter q ids)
+      ∙ by_number (λ id. (id == k || list_any (λ i. i == k) ids) ≡ false → (if q id then h id ∷ map h (filter q ids) else map h (filter q ids)) ≡ (if p id then g id ∷ map g (filter p ids) else map g (filter p ids))) k id
+      (λ f none. absurd (contradicts (id == k) (list_any (λ i. i == k) ids) (ap (λ (n : ℕ). n == k) f ∙ self_eq k) none))
+      (λ f none. cell (q id) (p id) (h id) (g id) (map h (filter q ids)) (map g (filter p ids)) (same id f).0 (same id f).1 (untouched_is k same ids (second (id == k) (list_any (λ i. i == k) ids) none))) e
+      ∙ sym (map_kept (p id) g id (filter p ids))
+    where
+      contradicts : (a b : Bool) → a ≡ true → (a || b) ≡ false → ⊥
+      contradicts true b e f = cc
+      contradicts false b e f = cc
+
+      second : (a b : Bool) → (a || b) ≡ false → b ≡ false
+      second true b e = absurd cc
+      second false b e = e
+
+  pub added_is : (k : ℕ) → SameBut k → q k ≡ true → (ids : List ℕ) → list_any (λ id. id == k) ids ≡ false → map h (filter q (ids ++ k ∷ [])) ≡ map g (filter p ids) ++ h k ∷ []
+  added_is k same alive ids none =
+      ap (map h) (filter-append q ids (k ∷ [])) ∙ map-append h (filter q ids) (filter q (k ∷ []))
+      ∙ ap (λ (l : List Stream). l ++ map h (filter q (k ∷ []))) (untouched_is k same ids none)
+      ∙ ap (λ (b : Bool). map g (filter p ids) ++ map h (if b then k ∷ [] else [])) alive
+
+-- ---- one stream found
+
+pub map_kept_by : (g : ℕ → Stream) (b : Bool) (id : ℕ) (ids : List ℕ) → map g (if b then id ∷ ids else ids) ≡ (if b then g id ∷ map g ids else map g ids)
+map_kept_by g true id ids = refl
+map_kept_by g false id ids = refl
+
+find_if : (k : ℕ) (b : Bool) (s : Stream) (xs : List Stream) → find (is_stream k) (if b then s ∷ xs else xs) ≡ (if b then (if is_stream k s then Some s else find (is_stream k) xs) else find (is_stream k) xs)
+find_if k true s xs = refl
+find_if k false s xs = refl
+
+is_here : (b c test same any : Bool) (s t : Stream) (rest : Option Stream) → b ≡ c → test ≡ true → same ≡ true → s ≡ t → rest ≡ (if any && c then Some t else None) →
+    (if b then (if test then Some s else rest) else rest) ≡ (if (same || any) && c then Some t else None)
+is_here true true test same any s t rest e f g h r = cc
+is_here true false test same any s t rest e f g h r = absurd cc
+is_here false true test same any s t rest e f g h r = absurd cc
+is_here false false test same true s t rest e f g h r = cc
+is_here false false test same false s t rest e f g h r = cc
+
+is_there : (b c test same any : Bool) (s t : Stream) (rest : Option Stream) → test ≡ false → same ≡ false → rest ≡ (if any && c then Some t else None) →
+    (if b then (if test then Some s else rest) else rest) ≡ (if (same || any) && c then Some t else None)
+is_there true c test same any s t rest e f r = cc
+is_there false c test same any s t rest e f r = cc
+
+pub isnt : (k id : ℕ) → (id ≡ k → ⊥) → (id == k) ≡ false
+isnt k id f = by (id == k) refl
+  where
+    by : (b : Bool) → (id == k) ≡ b → b ≡ false
+    by true t = absurd (f (eqb_is id k t))
+    by false t = refl
+
+module _ (p : ℕ → Bool) (g : ℕ → Stream) (names : (id : ℕ) → (g id).id ≡ id) where
+  pub found_is : (k : ℕ) (ids : List ℕ) → find (is_stream k) (map g (filter p ids)) ≡ (if list_any (λ id. id == k) ids && p k then Some (g k) else None)
+  found_is k [] = refl
+  found_is k (id ∷ ids) =
+      ap (find (is_stream k)) (map_kept_by g (p id) id (filter p ids))
+      ∙ find_if k (p id) (g id) (map g (filter p ids))
+      ∙ by_number (λ id. (if p id then (if is_stream k (g id) then Some (g id) else find (is_stream k) (map g (filter p ids))) else find (is_stream k) (map g (filter p ids))) ≡ (if (id == k || list_any (λ i. i == k) ids) && p k then Some (g k) else None)) k id
+      (λ e. is_here (p id) (p k) (is_stream k (g id)) (id == k) (list_any (λ i. i == k) ids) (g id) (g k) (find (is_stream k) (map g (filter p ids))) (ap p e) (ap (λ (n : ℕ). n == k) (names id ∙ e) ∙ self_eq k) (ap (λ (n : ℕ). n == k) e ∙ self_eq k) (ap g e) (found_is k ids))
+      (λ f. is_there (p id) (p k) (is_stream k (g id)) (id == k) (list_any (λ i. i == k) ids) (g id) (g k) (find (is_stream k) (map g (filter p ids))) (ap (λ (n : ℕ). n == k) (names id) ∙ isnt k id f) (isnt k id f) (found_is k ids))

@@ -1,0 +1,48 @@
+-- The settings of a payload, read six bytes after another.
+use Rattle.std.specs.List.{list_any}
+use Rattle.std.proofs.Common.{◌≡◌, ℕ, suc, ◌*◌, Bool, true, false, ◌||◌, ◌+◌, ◌<◌, ◌≤◌, List, [], ◌∷◌, length, drop, get_or, refl, sym, ap, ◌∙◌, arith}
+use Rattle.std.specs.Int.{w16, w32, from_be_bytes}
+use Rattle.std.proofs.lemmas.List.{length-drop}
+use Rattle.std.proofs.Math.Seq.{drop-cons}
+use Rattle.h2_exchange.specs.Windows.{settings_of}
+
+cell : (xs : List ℕ) (i j : ℕ) → i < length xs → suc i ≡ j → drop i xs ≡ get_or xs i 0 ∷ drop j xs
+cell xs i j lt e = drop-cons xs i 0 lt ∙ ap (λ (k : ℕ). get_or xs i 0 ∷ drop k xs) e
+
+six : (xs : List ℕ) (at : ℕ) → at + 6 ≤ length xs → drop at xs ≡ get_or xs at 0 ∷ get_or xs (at + 1) 0 ∷ get_or xs (at + 2) 0 ∷ get_or xs (at + 3) 0 ∷ get_or xs (at + 4) 0 ∷ get_or xs (at + 5) 0 ∷ drop (at + 6) xs
+six xs at fits =
+    let a : drop at xs ≡ get_or xs at 0 ∷ drop (at + 1) xs = cell xs at (at + 1) (omega arith) (omega arith) in
+    let b : drop (at + 1) xs ≡ get_or xs (at + 1) 0 ∷ drop (at + 2) xs = cell xs (at + 1) (at + 2) (omega arith) (omega arith) in
+    let d : drop (at + 2) xs ≡ get_or xs (at + 2) 0 ∷ drop (at + 3) xs = cell xs (at + 2) (at + 3) (omega arith) (omega arith) in
+    let e : drop (at + 3) xs ≡ get_or xs (at + 3) 0 ∷ drop (at + 4) xs = cell xs (at + 3) (at + 4) (omega arith) (omega arith) in
+    let f : drop (at + 4) xs ≡ get_or xs (at + 4) 0 ∷ drop (at + 5) xs = cell xs (at + 4) (at + 5) (omega arith) (omega arith) in
+    let g : drop (at + 5) xs ≡ get_or xs (at + 5) 0 ∷ drop (at + 6) xs = cell xs (at + 5) (at + 6) (omega arith) (omega arith) in
+    cc
+
+pub setting_here : (xs : List ℕ) (at : ℕ) → at + 6 ≤ length xs →
+    settings_of (drop at xs) ≡ (from_be_bytes w16 (get_or xs at 0 ∷ get_or xs (at + 1) 0 ∷ []), from_be_bytes w32 (get_or xs (at + 2) 0 ∷ get_or xs (at + 3) 0 ∷ get_or xs (at + 4) 0 ∷ get_or xs (at + 5) 0 ∷ [])) ∷ settings_of (drop (at + 6) xs)
+setting_here xs at fits = ap settings_of (six xs at fits)
+
+-- less than a setting is none
+no_setting : (xs : List ℕ) → length xs < 6 → settings_of xs ≡ []
+no_setting [] lt = refl
+no_setting (a ∷ []) lt = refl
+no_setting (a ∷ b ∷ []) lt = refl
+no_setting (a ∷ b ∷ c ∷ []) lt = refl
+no_setting (a ∷ b ∷ c ∷ d ∷ []) lt = refl
+no_setting (a ∷ b ∷ c ∷ d ∷ e ∷ []) lt = refl
+no_setting (a ∷ b ∷ c ∷ d ∷ e ∷ f ∷ more) lt = absurd (omega arith)
+
+pub last_setting : (xs : List ℕ) (n : ℕ) → length xs < n + 6 → settings_of (drop n xs) ≡ []
+last_setting xs n lt = no_setting (drop n xs) (omega (arith, length-drop n xs))
+
+-- a setting that fails a test leaves the later ones
+pub skips_setting : (test : ℕ × ℕ → Bool) (xs : List ℕ) (i : ℕ) (s : ℕ × ℕ) (all : Bool) → all ≡ list_any test (settings_of (drop (6 * i) xs)) → settings_of (drop (6 * i) xs) ≡ s ∷ settings_of (drop (6 * i + 6) xs) → test s ≡ false →
+    all ≡ list_any test (settings_of (drop (6 * (i + 1)) xs))
+skips_setting test xs i s all h e f =
+    let next : 6 * i + 6 ≡ 6 * (i + 1) = omega arith in
+    h ∙ ap (list_any test) e ∙ ap (λ (b : Bool). b || list_any test (settings_of (drop (6 * i + 6) xs))) f ∙ ap (λ (k : ℕ). list_any test (settings_of (drop k xs))) next
+
+-- one that passes is found
+pub finds_setting : (test : ℕ × ℕ → Bool) (xs : List ℕ) (i : ℕ) (s : ℕ × ℕ) (all : Bool) → all ≡ list_any test (settings_of (drop (6 * i) xs)) → settings_of (drop (6 * i) xs) ≡ s ∷ settings_of (drop (6 * i + 6) xs) → test s ≡ true → true ≡ all
+finds_setting test xs i s all h e f = sym (h ∙ ap (list_any test) e ∙ ap (λ (b : Bool). b || list_any test (settings_of (drop (6 * i + 6) xs))) f)

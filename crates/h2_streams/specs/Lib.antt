@@ -1,0 +1,5 @@
+pub mod Judging
+pub mod Laws
+pub mod Live
+pub mod Set
+pub mod Stands

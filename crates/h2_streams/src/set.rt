@@ -1,0 +1,292 @@
+ghost use Rattle.std.specs.Prelude.{◌≡◌, ◌+◌, ◌^◌, ◌<◌, ◌≤◌, Err, List, [], ◌∷◌, ◌++◌, length, false, true, is_some, IfOk, OnErr};
+ghost use Rattle.h2_exchange.specs.declared.role.Role.TheVariants.{Client};
+ghost use Rattle.h2_frames.specs.declared.frame.Frame.TheVariants.{Content, Headers, RstStream, WindowUpdate};
+ghost use Rattle.h2_frames.specs.declared.frame.FrameBody.{FrameBody};
+ghost use Rattle.h2_exchange.specs.declared.fault.SendFault.TheVariants.{IdsSpent};
+ghost use Rattle.h2_exchange.specs.Exchange.{Step, Sent, sent};
+ghost use Rattle.h2_exchange.specs.Frames.{has_end_stream, increment_of};
+ghost use Rattle.h2_exchange.specs.Streams.{highest, is_live, is_open};
+ghost use Rattle.h2_exchange.specs.Windows as windows;
+ghost use Rattle.h2_streams.specs.Set.{Set, fresh, at, is_open_in, begun, next_id, dropped, finished, room_of, spent, credited, credited_on, receive_in};
+ghost use Rattle.h2_streams.specs.Stands.{StandsFor};
+
+mod judge;
+
+use crate::live::{self, Stream};
+use h2_exchange::{H2Limits, Role, SendFault};
+use std::alloc::{AllocError, Global};
+use std::marker::Model;
+
+/// The header block that is being received.
+#[derive(Clone, Copy, Debug)]
+struct OpenBlock {
+    stream: u32,
+    last: bool,
+}
+
+/// The streams that are live, and the windows of the connection. Of a stream that is over nothing is
+/// remembered but that it isn't above the greatest id.
+#[derive(Debug, Drop)]
+pub struct StreamSet {
+    role: Role,
+    limits: H2Limits,
+    live: Vec<Stream>,
+    highest: u32,
+    is_started: bool,
+    block: Option<OpenBlock>,
+    initial: u32,
+    send: u32,
+    receive: u32,
+}
+
+impl Model for StreamSet {
+    ghost use Rattle.std.specs.Prelude.{option_map};
+    ghost use Rattle.h2_streams.specs.Set.{Set};
+
+    ghost Value = { Set };
+
+    ghost view = { λ s. record {
+      role = s.role;
+      limits = s.limits;
+      live = s.live.items;
+      highest = s.highest;
+      is_started = s.is_started;
+      block = option_map (λ b. (b.stream, b.last)) s.block;
+      initial = s.initial;
+      send = s.send;
+      receive = s.receive;
+    } };
+}
+
+impl StreamSet {
+    /// A set that has seen no frame.
+    pub fn new(alloc: Global, role: Role, limits: H2Limits) -> Result<StreamSet, AllocError>
+        ensures exact { IfOk result (λ set. set ≡ fresh role limits) }
+        ensures stands { IfOk result (λ set. StandsFor set []) }
+    {
+        let room = match role {
+            Role::Client => 0,
+            Role::Server => limits.streams as usize + 1,
+        };
+        Ok(StreamSet {
+            role,
+            limits,
+            live: Vec::with_capacity(alloc, room)?,
+            highest: 0,
+            is_started: false,
+            block: None,
+            initial: 65_535,
+            send: 65_535,
+            receive: 65_535,
+        })
+    }
+
+    /// Whether the stream is live: from its HEADERS until both sides ended it or either reset it.
+    pub fn is_live(&self, stream: u32) -> bool
+        ensures exact { result ≡ is_some (at stream self.now) }
+        ensures stands { (x : List Step) → StandsFor self.now x → result ≡ is_live self.now.role x stream }
+    {
+        self.has(stream)
+    }
+
+    fn has(&self, stream: u32) -> bool
+        ensures { result ≡ is_some (at stream self.now) }
+    {
+        live::find(self.live.as_slice(), stream).is_some()
+    }
+
+    /// Whether the stream is live and this side hasn't ended it.
+    pub fn is_open(&self, stream: u32) -> bool
+        ensures exact { result ≡ is_open_in (at stream self.now) }
+        ensures stands { (x : List Step) → StandsFor self.now x → result ≡ is_open self.now.role x stream }
+    {
+        self.has_open(stream)
+    }
+
+    fn has_open(&self, stream: u32) -> bool
+        ensures { result ≡ is_open_in (at stream self.now) }
+    {
+        match live::find(self.live.as_slice(), stream) {
+            Some(found) => !found.is_ended_here,
+            None => false,
+        }
+    }
+
+    /// Begins the next stream of this side, which is the client's.
+    pub fn begin(&mut self) -> Result<u32, SendFault>
+        requires { self.old.role ≡ Client }
+        ensures exact { IfOk result (λ id. (id ≡ next_id self.old.highest) × (self.new ≡ begun id self.old)) }
+        ensures err { OnErr result (self.new ≡ self.old) }
+        ensures fits { IfOk result (λ id. id < 2 ^ 31) }
+        ensures role { self.new.role ≡ self.old.role }
+        ensures stands { IfOk result (λ id. (x : List Step) (b : FrameBody) → StandsFor self.old x → b.stream ≡ id →
+            has_end_stream (Headers b) ≡ false → StandsFor self.new (x ++ Sent (Headers b) ∷ [])) }
+        ensures spent { result ≡ Err IdsSpent → (x : List Step) → StandsFor self.old x → highest (sent x) ≡ 2147483647 }
+    {
+        self.begin_next()
+    }
+
+    fn begin_next(&mut self) -> Result<u32, SendFault>
+        ensures ok { IfOk result (λ id. (id ≡ next_id self.old.highest) × (self.new ≡ begun id self.old)) }
+        ensures err { OnErr result (self.new ≡ self.old) }
+        ensures fits { IfOk result (λ id. id < 2 ^ 31) }
+        ensures role { self.new.role ≡ self.old.role }
+        ensures spent { result ≡ Err IdsSpent → 2147483645 < self.old.highest }
+    {
+        if self.highest > 2_147_483_645 {
+            return Err(SendFault::IdsSpent);
+        }
+        let id = if self.highest == 0 {
+            1
+        } else {
+            self.highest + 2
+        };
+        let stream = Stream {
+            id,
+            is_ended_here: false,
+            is_ended_there: false,
+            has_head: false,
+            room: 2_147_483_648,
+            receive: self.limits.window,
+        };
+        if self.live.push(stream).is_err() {
+            return Err(SendFault::NoMemory);
+        }
+        self.highest = id;
+        Ok(id)
+    }
+
+    /// Ends this side of an open stream. Where it ends with DATA, `sent` takes the bytes before.
+    pub fn finish(&mut self, stream: u32)
+        requires { is_open_in (at stream self.old) ≡ true }
+        ensures exact { self.new ≡ finished stream self.old }
+        ensures stands { (before : Set) (x : List Step) (b : FrameBody) → StandsFor before x → is_open before.role x stream ≡ true →
+            b.stream ≡ stream → length b.payload ≤ room_of before (at stream before) → has_end_stream (Content b) ≡ true →
+            self.old ≡ spent stream (length b.payload) before → StandsFor self.new (x ++ Sent (Content b) ∷ []) }
+    {
+        self.end_here(stream);
+    }
+
+    fn end_here(&mut self, stream: u32)
+        requires { is_open_in (at stream self.old) ≡ true }
+        ensures { self.new ≡ finished stream self.old }
+    {
+        let Some(found) = live::find(self.live.as_slice(), stream) else {
+            return;
+        };
+        if found.is_ended_there {
+            live::remove(&mut self.live, stream);
+        } else {
+            let ended = Stream {
+                is_ended_here: true,
+                ..found
+            };
+            live::replace(self.live.as_mut_slice(), stream, ended);
+        }
+    }
+
+    /// Ends a live stream at once, and leaves any other as it is.
+    pub fn reset(&mut self, stream: u32)
+        ensures exact { self.new ≡ dropped stream self.old }
+        ensures stands { (x : List Step) (b : FrameBody) → StandsFor self.old x → is_live self.old.role x stream ≡ true →
+            b.stream ≡ stream → StandsFor self.new (x ++ Sent (RstStream b) ∷ []) }
+    {
+        self.drop_stream(stream);
+    }
+
+    fn drop_stream(&mut self, stream: u32)
+        ensures { self.new ≡ dropped stream self.old }
+    {
+        live::remove(&mut self.live, stream);
+    }
+
+    /// How many bytes of DATA the windows allow on an open stream; 0 where it isn't open.
+    pub fn may_send(&self, stream: u32) -> u32
+        ensures exact { result ≡ room_of self.now (at stream self.now) }
+        ensures stands { (x : List Step) → StandsFor self.now x → is_open self.now.role x stream ≡ true →
+            result ≡ windows.may_send x stream }
+    {
+        self.room(stream)
+    }
+
+    fn room(&self, stream: u32) -> u32
+        ensures { result ≡ room_of self.now (at stream self.now) }
+    {
+        let Some(found) = live::find(self.live.as_slice(), stream) else {
+            return 0;
+        };
+        if found.is_ended_here {
+            return 0;
+        }
+        let offset = u64::from(self.initial) + u64::from(found.room);
+        let window = offset.saturating_sub(2_147_483_648);
+        window.min(u64::from(self.send)) as u32
+    }
+
+    /// Takes so many bytes of DATA off the windows, which allow them.
+    pub fn sent(&mut self, stream: u32, n: u32)
+        requires { n ≤ room_of self.old (at stream self.old) }
+        ensures exact { self.new ≡ spent stream n self.old }
+        ensures stands { (x : List Step) (b : FrameBody) → StandsFor self.old x → is_open self.old.role x stream ≡ true →
+            b.stream ≡ stream → length b.payload ≡ n → has_end_stream (Content b) ≡ false →
+            StandsFor self.new (x ++ Sent (Content b) ∷ []) }
+    {
+        self.spend(stream, n);
+    }
+
+    fn spend(&mut self, stream: u32, n: u32)
+        requires { n ≤ room_of self.old (at stream self.old) }
+        ensures { self.new ≡ spent stream n self.old }
+    {
+        let Some(found) = live::find(self.live.as_slice(), stream) else {
+            return;
+        };
+        let less = Stream {
+            room: found.room.saturating_sub(n),
+            ..found
+        };
+        live::replace(self.live.as_mut_slice(), stream, less);
+        self.send = self.send.saturating_sub(n);
+    }
+
+    /// Takes that a WINDOW_UPDATE was sent for the connection.
+    pub fn credited(&mut self, n: u32)
+        requires { self.old.receive + n < 2 ^ 32 }
+        ensures exact { self.new ≡ credited n self.old }
+        ensures stands { (x : List Step) (b : FrameBody) → StandsFor self.old x → b.stream ≡ 0 → increment_of (WindowUpdate b) ≡ n →
+            StandsFor self.new (x ++ Sent (WindowUpdate b) ∷ []) }
+    {
+        self.credit(n);
+    }
+
+    fn credit(&mut self, n: u32)
+        requires { self.old.receive + n < 2 ^ 32 }
+        ensures { self.new ≡ credited n self.old }
+    {
+        self.receive += n;
+    }
+
+    /// Takes that a WINDOW_UPDATE was sent for a live stream.
+    pub fn credited_on(&mut self, stream: u32, n: u32)
+        requires { receive_in (at stream self.old) + n < 2 ^ 32 }
+        ensures exact { self.new ≡ credited_on stream n self.old }
+        ensures stands { (x : List Step) (b : FrameBody) → StandsFor self.old x → is_live self.old.role x stream ≡ true →
+            b.stream ≡ stream → increment_of (WindowUpdate b) ≡ n → StandsFor self.new (x ++ Sent (WindowUpdate b) ∷ []) }
+    {
+        self.credit_on(stream, n);
+    }
+
+    fn credit_on(&mut self, stream: u32, n: u32)
+        requires { receive_in (at stream self.old) + n < 2 ^ 32 }
+        ensures { self.new ≡ credited_on stream n self.old }
+    {
+        let Some(found) = live::find(self.live.as_slice(), stream) else {
+            return;
+        };
+        let more = Stream {
+            receive: found.receive + n,
+            ..found
+        };
+        live::replace(self.live.as_mut_slice(), stream, more);
+    }
+}
