@@ -55,9 +55,13 @@ abbrev pub chosen_after : Option (ℕ × List ℕ) → List (ℕ × List ℕ) �
 chosen_after before [] = before
 chosen_after before (m ∷ ms) = chosen_after (Some (one_more before m)) ms
 
+-- the last number of a field, if it has one
+unfoldable pub last_number_at : ℕ → List ℕ → Option ℕ
+last_number_at wanted bytes = last_or None (numbers wanted (fields bytes).fields)
+
 -- the last number of a field, or 0
 unfoldable pub number_at : ℕ → List ℕ → ℕ
-number_at wanted bytes = unwrap_or (last_or None (numbers wanted (fields bytes).fields)) 0
+number_at wanted bytes = unwrap_or (last_number_at wanted bytes) 0
 
 -- the last bytes of a field, or none
 unfoldable pub text_at : ℕ → List ℕ → List ℕ

@@ -1,5 +1,6 @@
 use crate::{
-    Joined, MessageFault, MessageKind, chosen_at, first_fault, message_at, number_at, text_at,
+    Joined, MessageFault, MessageKind, chosen_at, first_fault, last_number_at, message_at,
+    number_at, text_at,
 };
 use proto_wire::WireFault;
 use schema_numbers::default_numbering;
@@ -55,6 +56,8 @@ fn what_a_message_says(rt: HostRuntime) -> Result<(), Fail> {
     let alloc = rt.alloc();
     assert_eq!(rt; number_at(1, b"\x08\x01\x08\x07\x0a\x01\x05"), 7);
     assert_eq!(rt; number_at(2, b"\x08\x01"), 0);
+    assert_eq!(rt; last_number_at(1, b"\x08\x07\x08\x00"), Some(0));
+    assert_eq!(rt; last_number_at(2, b"\x08\x01\x12\x00"), None);
     assert_eq!(rt;
         text_at(1, b"\x0a\x01a\x0a\x02bc\x08\x01"),
         b"bc".as_slice()

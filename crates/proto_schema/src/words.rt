@@ -1,7 +1,7 @@
 ghost use Rattle.std.specs.Prelude.{◌≡◌, ◌++◌, [], IfOk, unwrap_or};
 ghost use Rattle.std.specs.Option.{option_map, option_copied};
 ghost use Rattle.proto_wire.specs.Wire.{value_of};
-ghost use Rattle.proto_schema.specs.Words.{number_in, piece_in, member_in, number_at as last_number, text_at as last_text, message_at as joined_at, chosen_at as chosen_member, one_more};
+ghost use Rattle.proto_schema.specs.Words.{number_in, piece_in, member_in, last_number_at as last_number, number_at as number_said, text_at as last_text, message_at as joined_at, chosen_at as chosen_member, one_more};
 ghost use Rattle.proto_schema.specs.Chosen.{chosen_seen};
 
 use crate::joined::Joined;
@@ -38,9 +38,9 @@ pub fn member_of<'a>(among: &[u32], field: &Field<'a>) -> Option<&'a [u8]>
     }
 }
 
-/// The last number of a field, or 0.
-#[tactic(auto, unfolding(crate::specs::Words::number_at))]
-pub fn number_at(wanted: u32, bytes: &[u8]) -> u64
+/// The last number of a field, if it has one.
+#[tactic(auto, unfolding(crate::specs::Words::last_number_at))]
+pub fn last_number_at(wanted: u32, bytes: &[u8]) -> Option<u64>
     ensures { result ≡ last_number wanted bytes.now }
 {
     let mut last = None;
@@ -48,9 +48,17 @@ pub fn number_at(wanted: u32, bytes: &[u8]) -> u64
     loop {
         match reader.next() {
             Next::Field(field) => last = number_of(wanted, &field).or(last),
-            _ => return last.unwrap_or(0),
+            _ => return last,
         }
     }
+}
+
+/// The last number of a field, or 0.
+#[tactic(auto, unfolding(crate::specs::Words::number_at))]
+pub fn number_at(wanted: u32, bytes: &[u8]) -> u64
+    ensures { result ≡ number_said wanted bytes.now }
+{
+    last_number_at(wanted, bytes).unwrap_or(0)
 }
 
 /// The last bytes of a field, or none.

@@ -1,0 +1,7 @@
+use Rattle.std.proofs.Common.{◌≡◌, ◌++◌, take}
+use Rattle.std.specs.List.{flat_map}
+use Rattle.aft_messages.specs.Writing.{member_field}
+use Rattle.aft_messages.proofs.write.write_members.Given as goal
+
+abbrev pub invariant-loop-member : goal.invariant-loop-member
+invariant-loop-member l = l.out.items ≡ l.fn.out.items ++ flat_map (member_field l.n) (take l.member-index l.members)

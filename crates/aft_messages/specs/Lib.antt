@@ -1,0 +1,5 @@
+pub mod Decodes
+pub mod Reading
+pub mod Writing
+pub mod Printing
+pub mod Sent
