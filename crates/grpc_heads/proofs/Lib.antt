@@ -1,0 +1,6 @@
+pub mod Again
+pub mod Codes
+pub mod Escapes
+pub mod HeadsAgain
+pub mod Names
+pub mod Reasons

@@ -1,0 +1,5 @@
+pub mod Ending
+pub mod Heads
+pub mod Malformed
+pub mod Trailers
+pub mod Written
