@@ -1,8 +1,5 @@
 pub mod Sizes
-pub mod PlainCommands
 pub mod Steps
-pub mod Serving
-pub mod Streams
-pub mod Sinks
-pub mod Pieces
+pub mod Messages
 pub mod Runs
+pub mod Rows

@@ -10,14 +10,15 @@ use Rattle.schema_numbers.specs.Numbers.{Numbers, field_of}
 use Rattle.schema_numbers.specs.declared.names.FieldName.TheVariants as field
 use Rattle.gribi_messages.specs.declared.response.AftResult.{AftResult}
 use Rattle.gribi_messages.specs.declared.response.ModifyResponse.{ModifyResponse}
-use Rattle.gribi_messages.specs.Response.{number_field, result_bytes, uint128_bytes, result_field, params_field, election_field, response_bytes}
-use Rattle.rib_core.specs.declared.Command.{Command}
-use Rattle.rib_core.specs.declared.Command.TheVariants.{Begin, SetParams, Announce, Operate, Leave}
-use Rattle.rib_core.specs.declared.Reply.{Reply}
-use Rattle.rib_core.specs.declared.Reply.TheVariants.{Began, ParamsSet, Announced, RibDone, Left, NoMemory}
-use Rattle.schema_numbers.specs.Numbers.{value_of}
-use Rattle.schema_numbers.specs.declared.names.ValueName.TheVariants as value
-use Rattle.apply_path.specs.Answers.{response, results_of, answer_to}
+use Rattle.aft_messages.specs.Writing.{number_field}
+use Rattle.gribi_messages.specs.Response.{result_bytes, uint128_bytes, result_field, params_field, election_field, response_bytes}
+use Rattle.std.specs.Prelude.{ℤ}
+use Rattle.grpc_framing.specs.Framing.{item}
+use Rattle.table_model.specs.declared.reply.Reply.{Reply}
+use Rattle.table_model.specs.declared.reply.Reply.TheVariants as reply
+use Rattle.session_engine.specs.Answers.{Answers, owed, params_set, announced, one_result, operation_result}
+use Rattle.apply_path.specs.History.{owed_bytes}
+use Rattle.apply_path.specs.Serves.{is_collected}
 
 bytes_upto : (b : Bool) (k n m : ℕ) (xs : List ℕ) → length xs ≤ k + 1 → length (cond b (n ∷ []) (m ∷ xs)) ≤ suc k + 1
 bytes_upto true k n m xs le = omega arith
@@ -85,17 +86,10 @@ election_field-len : (n : Numbers) (id : ℕ) → length (election_field n id) �
 unfolding election_field
 election_field-len n id = omega (arith, bytes_field-len (field_of n field.ModifyResponseElectionId) (uint128_bytes n id), uint128_bytes-len n id)
 
-one_result : (n : Numbers) (r : AftResult) → length (flat_map (result_field n) (r ∷ [])) ≤ 100
-one_result n r =
+single : (n : Numbers) (r : AftResult) → length (flat_map (result_field n) (r ∷ [])) ≤ 100
+single n r =
     let e : flat_map (result_field n) (r ∷ []) ≡ result_field n r = flat_map-cons (result_field n) r [] ∙ append-nil (result_field n r) in
     rw e (result_field-len n r)
-
-results-len : (n : Numbers) (command : Command) → length (flat_map (result_field n) (results_of n command)) ≤ 100
-results-len n Begin = omega arith
-results-len n (SetParams s) = omega arith
-results-len n (Announce s id) = omega arith
-results-len n (Operate s o now) = one_result n _
-results-len n (Leave s) = omega arith
 
 params-len : (n : Numbers) (params : Option ℕ) → length (option_map_or (params_field n) params []) ≤ 40
 params-len n None = omega arith
@@ -113,13 +107,38 @@ response-len n r le =
     let election = option_map_or (election_field n) r.election [] in
     omega (arith, length-append (results ++ params) election, length-append results params, le, params-len n r.params, election-len n r.election)
 
-owed-len : (n : Numbers) (command : Command) (reply : Reply) (r : ModifyResponse) → answer_to n command reply ≡ Some r → length (flat_map (result_field n) r.results) ≤ 100
-owed-len n command (Began s) r e = absurd cc
-owed-len n command ParamsSet r e = let same : response [] (Some (value_of n value.ParamsStatusOk)) None ≡ r = cc in rw (← same) (omega arith)
-owed-len n command (Announced id) r e = let same : response [] None (Some id) ≡ r = cc in rw (← same) (omega arith)
-owed-len n command RibDone r e = let same : response (results_of n command) None None ≡ r = cc in rw (← same) (results-len n command)
-owed-len n command Left r e = absurd cc
-owed-len n command NoMemory r e = absurd cc
+owed-len : (n : Numbers) (id : ℕ) (now : ℤ) (answer : Reply) (r : ModifyResponse) → is_collected answer ≡ false → owed n id now answer ≡ Some r → length (flat_map (result_field n) r.results) ≤ 100
+owed-len n id now reply.ParamsSet r not_these e = let same : params_set n ≡ r = cc in rw (← same) (omega arith)
+owed-len n id now (reply.Announced highest) r not_these e = let same : announced highest ≡ r = cc in rw (← same) (omega arith)
+owed-len n id now reply.RibDone r not_these e = let same : one_result (operation_result n id now None) ≡ r = cc in rw (← same) (single n (operation_result n id now None))
+owed-len n id now (reply.RibFailed reason) r not_these e = let same : one_result (operation_result n id now (Some reason)) ≡ r = cc in rw (← same) (single n (operation_result n id now (Some reason)))
+owed-len n id now (reply.Collected given outstanding) r not_these e = absurd cc
+owed-len n id now _ r not_these e = absurd cc
 
-pub answer-short : (n : Numbers) (command : Command) (reply : Reply) (r : ModifyResponse) → answer_to n command reply ≡ Some r → length (response_bytes n r) < 2 ^ 32
-answer-short n command reply r e = let le : length (response_bytes n r) ≤ 200 = response-len n r (owed-len n command reply r e) in omega (arith, le)
+pub answer-short : (n : Numbers) (id : ℕ) (now : ℤ) (answer : Reply) (r : ModifyResponse) → is_collected answer ≡ false → owed n id now answer ≡ Some r → length (response_bytes n r) < 2 ^ 32
+answer-short n id now answer r not_these e = let le : length (response_bytes n r) ≤ 200 = response-len n r (owed-len n id now answer r not_these e) in omega (arith, le)
+
+-- the answer that was spelled is the one that is owed
+pub spelled : (n : Numbers) (id : ℕ) (now : ℤ) (answer : Reply) (is_owed : Bool) (o : Option ModifyResponse) (before after : List ℕ) → before ≡ [] → is_owed ≡ true → Answers n is_owed o before after
+    → (r : ModifyResponse) × (o ≡ Some r) × (after ≡ response_bytes n r)
+spelled n id now answer is_owed None before after none here a = absurd cc
+spelled n id now answer is_owed (Some r) before after none here a = (r, refl, a.1 ∙ ap (λ (x : List ℕ). x ++ response_bytes n r) none)
+
+pub spelled_short : (n : Numbers) (id : ℕ) (now : ℤ) (answer : Reply) (is_owed : Bool) (before after : List ℕ) → before ≡ [] → is_owed ≡ true → Answers n is_owed (owed n id now answer) before after → is_collected answer ≡ false → length after < 2 ^ 32
+spelled_short n id now answer is_owed before after none here a not_these =
+    let s = spelled n id now answer is_owed (owed n id now answer) before after none here a in
+    rw s.2 (answer-short n id now answer s.0 not_these s.1)
+
+pub spelled_item : (n : Numbers) (id : ℕ) (now : ℤ) (answer : Reply) (is_owed : Bool) (before after : List ℕ) → before ≡ [] → is_owed ≡ true → Answers n is_owed (owed n id now answer) before after → item after ≡ owed_bytes n id now answer
+unfolding owed_bytes
+spelled_item n id now answer is_owed before after none here a =
+    let s = spelled n id now answer is_owed (owed n id now answer) before after none here a in
+    ap item s.2 ∙ sym (ap (λ (o : Option ModifyResponse). option_map_or (λ r. item (response_bytes n r)) o []) s.1)
+
+unspelled_in : (n : Numbers) (is_owed : Bool) (o : Option ModifyResponse) (before after : List ℕ) → is_owed ≡ false → Answers n is_owed o before after → option_map_or (λ r. item (response_bytes n r)) o [] ≡ []
+unspelled_in n is_owed None before after not_here a = refl
+unspelled_in n is_owed (Some r) before after not_here a = absurd cc
+
+pub unspelled : (n : Numbers) (id : ℕ) (now : ℤ) (answer : Reply) (is_owed : Bool) (before after : List ℕ) → is_owed ≡ false → Answers n is_owed (owed n id now answer) before after → owed_bytes n id now answer ≡ []
+unfolding owed_bytes
+unspelled n id now answer is_owed before after not_here a = unspelled_in n is_owed (owed n id now answer) before after not_here a

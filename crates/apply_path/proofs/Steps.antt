@@ -1,60 +1,332 @@
--- The commands of the messages from a stage on: that of the first, and those from the next stage on.
-use Rattle.std.proofs.Common.{◌≡◌, ℕ, ◌+◌, Bool, true, false, cond, List, [], ◌∷◌, Option, Some, None, refl, ap, ◌∙◌}
-use Rattle.std.specs.Prelude.{pos}
-use Rattle.std.specs.Option.{option_and_then, option_map, option_map_or}
+-- One command, and commands in a row.
+use Rattle.std.proofs.Common.{inl, inr, ◌≡◌, ℕ, suc, ◌+◌, ◌≤◌, ◌^◌, Bool, true, false, cond, List, [], ◌∷◌, ◌++◌, length, map, Option, Some, None, refl, sym, ap, subst, ◌∙◌, append_assoc, arith}
+use Rattle.std.specs.Prelude.{is_some, not, ◌&&◌, ◌==◌}
+use Rattle.std.proofs.lemmas.List.{append-nil}
+use Rattle.std.proofs.lemmas.List.Concat.{flat_map-cons}
 use Rattle.schema_numbers.specs.Numbers.{Numbers}
-use Rattle.gribi_messages.specs.declared.request.ModifyRequest.{ModifyRequest}
-use Rattle.rib_core.specs.declared.Operation.{Operation}
-use Rattle.rib_core.specs.declared.Command.{Command}
-use Rattle.rib_core.specs.declared.Command.TheVariants.{SetParams, Announce, Operate}
-use Rattle.apply_path.specs.declared.plain.Stage.{Stage}
-use Rattle.apply_path.specs.declared.plain.Stage.TheVariants.{Params, Election, Operations}
-use Rattle.apply_path.specs.Plain.{has_params_alone, election_alone, operation_alone, request_in}
-use Rattle.apply_path.specs.Commands.{and_operation, from_operations, and_election, from_election, from_params}
-use Rattle.apply_path.specs.Sessions.{command_of, command_at, from_stage}
+use Rattle.table_model.specs.declared.command.Command.{Command}
+use Rattle.table_model.specs.declared.command.Command.TheVariants.{Begin, SetParams, Announce, Operate, Collect, Leave, Flush, Select, Take, Report, Halt}
+use Rattle.table_model.specs.declared.command.Config.{Config}
+use Rattle.table_model.specs.declared.command.Operation.{Operation}
+use Rattle.table_model.specs.declared.reply.Reply.{Reply}
+use Rattle.table_model.specs.declared.reply.Reply.TheVariants as reply
+use Rattle.table_model.specs.Event.{Event, events, is_no_memory}
+use Rattle.table_model.specs.Legal.{IsAnswer}
+use Rattle.table_model.specs.Reply.{reply_to}
+use Rattle.rib_core.specs.Core.{Core}
+use Rattle.rib_core.specs.Stands.{StandsFor, Acts}
+use Rattle.rib_core.specs.Built.{as_served, served_params, is_built}
+use Rattle.message_run.specs.declared.answerer.Answered.{Answered}
+use Rattle.message_run.specs.declared.answerer.Answered.TheVariants.{GoesOn, Ends, Unread, NoMemory}
+use Rattle.table_model.specs.declared.params.Params.{Params}
+use Rattle.table_model.specs.Reply.{is_stoppable, is_halted, is_gone, params_beside, params_reply, reply_params, reply_announce, operate_reply, reply_operate, answer}
+use Rattle.table_model.specs.Sessions.{params_of, supported, differing}
+use Rattle.table_model.specs.Rib.{verdict}
+use Rattle.aft_entries.specs.declared.operation.Reason.{Reason}
+use Rattle.apply_path.specs.History.{event, answered, with_events, up_to_end, first_end, is_operate, id_of, moment_of, code_by, code_of, owed_bytes, answer_bytes, Series, series_of, series}
+use Rattle.apply_path.specs.Serves.{Stood, Told, Replied, Went, Did, Does, behind, is_collected}
 
-abbrev pub stepped : Numbers → ℕ → List (List ℕ) → Option (Command × Stage) → List Command
-stepped n place ms None = []
-stepped n place ms (Some c) = c.0 ∷ from_stage n c.1 (place + 1) ms
+-- ---- one event
 
-flag_step : (n : Numbers) (place : ℕ) (ms : List (List ℕ)) (b : Bool) → cond b (SetParams 0 ∷ from_election n (place + 1) ms) [] ≡ stepped n place ms (cond b (Some (SetParams 0, Election)) None)
-flag_step n place ms true = refl
-flag_step n place ms false = refl
+answer_is : (config : Config) (past : List Event) (command : Command) (given : Reply) → is_no_memory given ≡ false → IsAnswer config past (record { command = command; reply = given }) → given ≡ reply_to config past command
+answer_is config past command given has (inl e) = e
+answer_is config past command given has (inr e) = let both : true ≡ false = sym (ap is_no_memory e.0) ∙ has in absurd cc
 
-params_step : (n : Numbers) (place : ℕ) (ms : List (List ℕ)) (o : Option ModifyRequest)
-    → cond (option_map_or (has_params_alone n) o false) (SetParams 0 ∷ from_election n (place + 1) ms) [] ≡ stepped n place ms (option_and_then (λ r. cond (has_params_alone n r) (Some (SetParams 0, Election)) None) o)
-params_step n place ms None = refl
-params_step n place ms (Some r) = flag_step n place ms (has_params_alone n r)
+-- the reply is the server's
+pub replied : (config : Config) (new : Core) (past : List Event) (command : Command) (given : Reply) → new.config ≡ config → events past ≡ past → is_no_memory given ≡ false
+    → StandsFor new (record { command = command; reply = given } ∷ past) → given ≡ reply_to config past command
+replied config new past command given same all has stands =
+    let legal : IsAnswer new.config (events past) (record { command = command; reply = given }) = stands.legal.0 in
+    answer_is config past command given has (subst (λ (c : Config). IsAnswer c past (record { command = command; reply = given })) same (subst (λ (p : List Event). IsAnswer new.config p (record { command = command; reply = given })) all legal))
 
-id_step : (n : Numbers) (place : ℕ) (ms : List (List ℕ)) (id : Option ℕ) → and_election n (place + 1) ms id ≡ stepped n place ms (option_map (λ v. (Announce 0 v, Operations v)) id)
-id_step n place ms None = refl
-id_step n place ms (Some id) = refl
+events_more : (past : List Event) (e : Event) → events past ≡ past → is_no_memory e.reply ≡ false → events (e ∷ past) ≡ e ∷ past
+unfolding events
+events_more past e all has = ap (λ (b : Bool). cond b (events past) (e ∷ events past)) has ∙ ap (λ (p : List Event). e ∷ p) all
 
-election_step : (n : Numbers) (place : ℕ) (ms : List (List ℕ)) (o : Option ModifyRequest)
-    → and_election n (place + 1) ms (option_and_then election_alone o) ≡ stepped n place ms (option_and_then (λ r. option_map (λ v. (Announce 0 v, Operations v)) (election_alone r)) o)
-election_step n place ms None = refl
-election_step n place ms (Some r) = id_step n place ms (election_alone r)
+pub stood_more : (config : Config) (old new : Core) (past : List Event) (command : Command) (given : Reply) → Stood config old past → new.config ≡ old.config → is_no_memory given ≡ false
+    → Acts old (as_served command) given new → Stood config new (event config past command ∷ past) × (given ≡ reply_to config past (as_served command))
+stood_more config old new past command given stood same has acts =
+    let now = acts past stood.stands in
+    let config_is = same ∙ stood.config_is in
+    let is = replied config new past (as_served command) given config_is stood.all has now in
+    let e : record { command = as_served command; reply = given } ≡ event config past command = ap (λ (r : Reply). record { command = as_served command; reply = r }) is in (
+      record {
+        stands = subst (λ (x : Event). StandsFor new (x ∷ past)) e now;
+        all = events_more past (event config past command) stood.all (ap is_no_memory (sym is) ∙ has);
+        config_is = config_is;
+      },
+      is,
+    )
 
-done_step : (n : Numbers) (id place : ℕ) (ms : List (List ℕ)) (o : Option Operation)
-    → and_operation place (from_operations n id (place + 1) ms) o ≡ stepped n place ms (option_map (λ v. (Operate 0 v (pos place), Operations id)) o)
-done_step n id place ms None = refl
-done_step n id place ms (Some o) = refl
+-- ---- one command
 
-operation_step : (n : Numbers) (id place : ℕ) (ms : List (List ℕ)) (o : Option ModifyRequest)
-    → and_operation place (from_operations n id (place + 1) ms) (option_and_then (operation_alone id) o)
-    ≡ stepped n place ms (option_and_then (λ r. option_map (λ v. (Operate 0 v (pos place), Operations id)) (operation_alone id r)) o)
-operation_step n id place ms None = refl
-operation_step n id place ms (Some r) = done_step n id place ms (operation_alone id r)
+goes_in : (n : Numbers) (past : List Event) (e : Event) (es : List Event) → code_of e ≡ None → series_of n past (e ∷ es) ≡ behind (answer_bytes n e) (series_of n (e ∷ past) es)
+unfolding up_to_end first_end with_events
+goes_in n past e es on = rw on (ap (λ (w : List ℕ). record { written = w; ending = first_end es; past = with_events (e ∷ past) (up_to_end es) }) (flat_map-cons (answer_bytes n) e (up_to_end es)))
 
-pub from_stage-step : (n : Numbers) (stage : Stage) (place : ℕ) (m : List ℕ) (ms : List (List ℕ)) (c : Option (Command × Stage)) → command_at n stage m (pos place) ≡ c
-    → from_stage n stage place (m ∷ ms) ≡ stepped n place ms c
-unfolding from_operations
-from_stage-step n Params place m ms c e = params_step n place ms (request_in n m) ∙ ap (stepped n place ms) e
-from_stage-step n Election place m ms c e = election_step n place ms (request_in n m) ∙ ap (stepped n place ms) e
-from_stage-step n (Operations id) place m ms c e = operation_step n id place ms (request_in n m) ∙ ap (stepped n place ms) e
+ends_in : (n : Numbers) (past : List Event) (e : Event) (es : List Event) (code : ℕ) → code_of e ≡ Some code → series_of n past (e ∷ es) ≡ record { written = answer_bytes n e; ending = Some code; past = e ∷ past }
+unfolding up_to_end first_end with_events
+ends_in n past e es code on = rw on (ap (λ (w : List ℕ). record { written = w; ending = Some code; past = e ∷ past }) (flat_map-cons (answer_bytes n) e [] ∙ append-nil (answer_bytes n e)))
 
-pub from_stage-nil : (n : Numbers) (stage : Stage) (place : ℕ) → from_stage n stage place [] ≡ []
-unfolding from_operations
-from_stage-nil n Params place = refl
-from_stage-nil n Election place = refl
-from_stage-nil n (Operations id) place = refl
+operate_as : (c : Command) → is_operate (as_served c) ≡ is_operate c
+operate_as Begin = refl
+operate_as (SetParams s a) = refl
+operate_as (Announce s i) = refl
+operate_as (Operate s o t) = refl
+operate_as (Collect s) = refl
+operate_as (Leave s) = refl
+operate_as (Flush b w t) = refl
+operate_as (Select w k) = refl
+operate_as (Take w t) = refl
+operate_as (Report j v t) = refl
+operate_as Halt = refl
+
+id_as : (c : Command) → id_of (as_served c) ≡ id_of c
+id_as Begin = refl
+id_as (SetParams s a) = refl
+id_as (Announce s i) = refl
+id_as (Operate s o t) = refl
+id_as (Collect s) = refl
+id_as (Leave s) = refl
+id_as (Flush b w t) = refl
+id_as (Select w k) = refl
+id_as (Take w t) = refl
+id_as (Report j v t) = refl
+id_as Halt = refl
+
+moment_as : (c : Command) → moment_of (as_served c) ≡ moment_of c
+moment_as Begin = refl
+moment_as (SetParams s a) = refl
+moment_as (Announce s i) = refl
+moment_as (Operate s o t) = refl
+moment_as (Collect s) = refl
+moment_as (Leave s) = refl
+moment_as (Flush b w t) = refl
+moment_as (Select w k) = refl
+moment_as (Take w t) = refl
+moment_as (Report j v t) = refl
+moment_as Halt = refl
+
+code_as : (config : Config) (past : List Event) (c : Command) (given : Reply) → given ≡ reply_to config past (as_served c) → code_of (event config past c) ≡ code_by (is_operate c) given
+code_as config past c given is = rw (operate_as c, is) refl
+
+bytes_as : (n : Numbers) (config : Config) (past : List Event) (c : Command) (given : Reply) → given ≡ reply_to config past (as_served c) → answer_bytes n (event config past c) ≡ owed_bytes n (id_of c) (moment_of c) given
+bytes_as n config past c given is = rw (id_as c, moment_as c, is) refl
+
+pub series_goes : (n : Numbers) (config : Config) (past : List Event) (c : Command) (others : List Command) → code_of (event config past c) ≡ None
+    → series n config past (c ∷ others) ≡ behind (answer_bytes n (event config past c)) (series n config (event config past c ∷ past) others)
+unfolding series answered
+series_goes n config past c others on = goes_in n past (event config past c) (answered config (event config past c ∷ past) others) on
+
+pub series_ends : (n : Numbers) (config : Config) (past : List Event) (c : Command) (others : List Command) (code : ℕ) → code_of (event config past c) ≡ Some code
+    → series n config past (c ∷ others) ≡ record { written = answer_bytes n (event config past c); ending = Some code; past = event config past c ∷ past }
+unfolding series answered
+series_ends n config past c others code on = ends_in n past (event config past c) (answered config (event config past c ∷ past) others) code on
+
+pub does_one : (n : Numbers) (old new : Core) (c : Command) (given : Reply) (answer : Answered) (before after : List ℕ) → Replied old c given new
+    → Told n (is_operate c) (id_of c) (moment_of c) given answer before after → Does n old new (c ∷ []) answer before after
+does_one n old new c given GoesOn before after r told = λ config past stood.
+    let more = stood_more config old new past c given stood r.config told.0 (r.acts told.0) in
+    record {
+      now = event config past c ∷ past;
+      written = answer_bytes n (event config past c);
+      stood = more.0;
+      few = r.few told.0;
+      goes = λ others. series_goes n config past c others (code_as config past c given more.1 ∙ told.1);
+      appended = told.2 ∙ ap (λ (x : List ℕ). before ++ x) (sym (bytes_as n config past c given more.1));
+    }
+does_one n old new c given (Ends code) before after r told = λ config past stood.
+    let more = stood_more config old new past c given stood r.config told.0 (r.acts told.0) in
+    record {
+      now = event config past c ∷ past;
+      written = answer_bytes n (event config past c);
+      stood = more.0;
+      few = r.few told.0;
+      ends = λ others. series_ends n config past c others code (code_as config past c given more.1 ∙ told.1);
+      appended = told.2 ∙ ap (λ (x : List ℕ). before ++ x) (sym (bytes_as n config past c given more.1));
+    }
+does_one n old new c given (Unread place) before after r told = absurd told
+does_one n old new c given NoMemory before after r told = λ config past stood. record { part = []; begins = λ others. ((series n config past (c ∷ others)).written, refl); appended = told ∙ sym (append-nil before) }
+
+-- ---- no command here asks for results
+
+collected_in : (a b : Bool) (x : Reply) → is_collected x ≡ false → is_collected (cond a reply.Stopped (cond b reply.Gone x)) ≡ false
+collected_in true b x e = refl
+collected_in false true x e = refl
+collected_in false false x e = e
+
+params_beside-not : (o : Option Params) → is_collected (params_beside o) ≡ false
+params_beside-not None = refl
+params_beside-not (Some other) = refl
+
+pick-not : (b : Bool) (x y : Reply) → is_collected x ≡ false → is_collected y ≡ false → is_collected (cond b x y) ≡ false
+pick-not true x y e f = e
+pick-not false x y e f = f
+
+params-not : (past : List Event) (session : ℕ) (o : Option Params) → is_collected (params_reply past session o) ≡ false
+params-not past session None = refl
+params-not past session (Some params) = pick-not (is_some (params_of past session)) reply.ParamsNotAllowed (params_beside (differing past session params)) refl (params_beside-not (differing past session params))
+
+operate-not : (o : Option Reason) → is_collected (operate_reply o) ≡ false
+operate-not None = refl
+operate-not (Some reason) = refl
+
+answer-not : (config : Config) (past : List Event) (c : Command) → is_built c ≡ true → is_collected (answer config past (as_served c)) ≡ false
+unfolding reply_params reply_announce reply_operate
+answer-not config past Begin built = refl
+answer-not config past (SetParams s a) built = params-not past s (supported (served_params a))
+answer-not config past (Announce s id) built = pick-not (not (is_some (params_of past s))) reply.NoParams _ refl (pick-not (id == 0) reply.ZeroId _ refl refl)
+answer-not config past (Operate s o t) built = pick-not (not (is_some (params_of past s))) reply.NoParams _ refl (operate-not (verdict config past s o))
+answer-not config past (Leave s) built = refl
+answer-not config past (Collect s) built = absurd cc
+answer-not config past (Flush b w t) built = absurd cc
+answer-not config past (Select w k) built = absurd cc
+answer-not config past (Take w t) built = absurd cc
+answer-not config past (Report j v t) built = absurd cc
+answer-not config past Halt built = absurd cc
+
+lacks-not : (given : Reply) → is_no_memory given ≡ true → is_collected given ≡ false
+lacks-not reply.NoMemory e = refl
+lacks-not (reply.Collected given outstanding) e = absurd cc
+lacks-not (reply.Began s) e = refl
+lacks-not _ e = refl
+
+not_in : (b : Bool) (config : Config) (old new : Core) (past : List Event) (c : Command) (given : Reply) → is_no_memory given ≡ b → is_built c ≡ true → Stood config old past → Replied old c given new → is_collected given ≡ false
+unfolding reply_to
+not_in true config old new past c given has built stood r = lacks-not given has
+not_in false config old new past c given has built stood r =
+    let is = (stood_more config old new past c given stood r.config has (r.acts has)).1 in
+    ap is_collected is ∙ collected_in (is_stoppable (as_served c) && is_halted past) (is_gone past (as_served c)) (answer config past (as_served c)) (answer-not config past c built)
+
+pub not_collected : (config : Config) (old new : Core) (past : List Event) (c : Command) (given : Reply) → is_built c ≡ true → Stood config old past → Replied old c given new → is_collected given ≡ false
+not_collected config old new past c given built stood r = not_in (is_no_memory given) config old new past c given refl built stood r
+
+-- ---- commands in a row
+
+pub does_none : (n : Numbers) (core : Core) (text : List ℕ) → core.count ≤ 2 ^ 61 → Does n core core [] GoesOn text text
+does_none n core text few = λ config past stood. record {
+  now = past;
+  written = [];
+  stood = stood;
+  few = few;
+  goes = λ others. refl;
+  appended = sym (append-nil text);
+}
+
+-- in front of other commands
+went_more : (n : Numbers) (config : Config) (mid new : Core) (past : List Event) (cs ds : List Command) (answer : Answered) (before between after : List ℕ) → Went n config mid past cs before between
+    → Does n mid new ds answer between after → Did n config new past (cs ++ ds) answer before after
+went_more n config mid new past cs ds GoesOn before between after h d =
+    let k = d config h.now h.stood in
+    record {
+      now = k.now;
+      written = h.written ++ k.written;
+      stood = k.stood;
+      few = k.few;
+      goes = λ others. ap (series n config past) (append_assoc cs ds others) ∙ h.goes (ds ++ others) ∙ ap (behind h.written) (k.goes others)
+          ∙ ap (λ (w : List ℕ). record { written = w; ending = (series n config k.now others).ending; past = (series n config k.now others).past }) (sym (append_assoc h.written k.written (series n config k.now others).written));
+      appended = k.appended ∙ ap (λ (x : List ℕ). x ++ k.written) h.appended ∙ append_assoc before h.written k.written;
+    }
+went_more n config mid new past cs ds (Ends code) before between after h d =
+    let k = d config h.now h.stood in
+    record {
+      now = k.now;
+      written = h.written ++ k.written;
+      stood = k.stood;
+      few = k.few;
+      ends = λ others. ap (series n config past) (append_assoc cs ds others) ∙ h.goes (ds ++ others) ∙ ap (behind h.written) (k.ends others);
+      appended = k.appended ∙ ap (λ (x : List ℕ). x ++ k.written) h.appended ∙ append_assoc before h.written k.written;
+    }
+went_more n config mid new past cs ds (Unread place) before between after h d = absurd (d config h.now h.stood)
+went_more n config mid new past cs ds NoMemory before between after h d =
+    let k = d config h.now h.stood in
+    record {
+      part = h.written ++ k.part;
+      begins = λ others.
+          let b = k.begins others in
+          (b.0, ap (λ (s : Series). s.written) (ap (series n config past) (append_assoc cs ds others) ∙ h.goes (ds ++ others)) ∙ ap (λ (x : List ℕ). h.written ++ x) b.1 ∙ sym (append_assoc h.written k.part b.0));
+      appended = k.appended ∙ ap (λ (x : List ℕ). x ++ k.part) h.appended ∙ append_assoc before h.written k.part;
+    }
+
+pub does_more : (n : Numbers) (old mid new : Core) (cs ds : List Command) (answer : Answered) (before between after : List ℕ) → Does n old mid cs GoesOn before between → Does n mid new ds answer between after
+    → Does n old new (cs ++ ds) answer before after
+does_more n old mid new cs ds answer before between after first second = λ config past stood. went_more n config mid new past cs ds answer before between after (first config past stood) second
+
+-- and where those aren't done
+abbrev pub is_going : Answered → Bool
+is_going GoesOn = true
+is_going _ = false
+
+did_all : (n : Numbers) (config : Config) (new : Core) (past : List Event) (cs ds : List Command) (answer : Answered) (before after : List ℕ) → is_going answer ≡ false → Did n config new past cs answer before after → Did n config new past (cs ++ ds) answer before after
+did_all n config new past cs ds GoesOn before after stops h = absurd cc
+did_all n config new past cs ds (Ends code) before after stops h = record {
+  now = h.now;
+  written = h.written;
+  stood = h.stood;
+  few = h.few;
+  ends = λ others. ap (series n config past) (append_assoc cs ds others) ∙ h.ends (ds ++ others);
+  appended = h.appended;
+}
+did_all n config new past cs ds (Unread place) before after stops h = absurd h
+did_all n config new past cs ds NoMemory before after stops h = record {
+  part = h.part;
+  begins = λ others. let b = h.begins (ds ++ others) in (b.0, ap (λ (s : Series). s.written) (ap (series n config past) (append_assoc cs ds others)) ∙ b.1);
+  appended = h.appended;
+}
+
+pub does_all : (n : Numbers) (old new : Core) (cs ds : List Command) (answer : Answered) (before after : List ℕ) → is_going answer ≡ false → Does n old new cs answer before after → Does n old new (cs ++ ds) answer before after
+does_all n old new cs ds answer before after stops first = λ config past stood. did_all n config new past cs ds answer before after stops (first config past stood)
+
+-- a table that stood for a history stands for another behind it
+pub stands_on : (n : Numbers) (old new : Core) (cs : List Command) (before after : List ℕ) → Does n old new cs GoesOn before after → (config : Config) × (past : List Event) × Stood config old past
+    → (config : Config) × (past : List Event) × Stood config new past
+stands_on n old new cs before after d h = (h.0, (d h.0 h.1 h.2).now, (d h.0 h.1 h.2).stood)
+
+-- ---- the session begins and leaves
+
+pub begins : (config : Config) (old new : Core) (given : Reply) → StandsFor old [] → old.config ≡ config → Acts old Begin given new → new.config ≡ old.config → is_no_memory given ≡ false → Stood config new (event config [] Begin ∷ [])
+unfolding events
+begins config old new given stands same acts kept has = (stood_more config old new [] Begin given (record { stands = stands; all = refl; config_is = same }) kept has acts).0
+
+lack_not : (config : Config) (past : List Event) (given : Reply) → IsAnswer config past (record { command = Leave 0; reply = given }) → is_no_memory given ≡ false
+unfolding reply_to
+lack_not config past given (inl e) = ap is_no_memory e ∙ leave_in (is_gone past (Leave 0))
+  where
+    leave_in : (b : Bool) → is_no_memory (cond b reply.Gone reply.Left) ≡ false
+    leave_in true = refl
+    leave_in false = refl
+lack_not config past given (inr e) = let both : false ≡ true = e.1 in absurd cc
+
+pub leaves : (config : Config) (old new : Core) (past : List Event) (given : Reply) → Stood config old past → Acts old (Leave 0) given new → new.config ≡ old.config → Stood config new (event config past (Leave 0) ∷ past)
+leaves config old new past given stood acts kept =
+    let legal : IsAnswer new.config (events past) (record { command = Leave 0; reply = given }) = (acts past stood.stands).legal.0 in
+    (stood_more config old new past (Leave 0) given stood kept (lack_not new.config (events past) given legal) acts).0
+
+-- ---- operations, one after another
+
+map_push : {A B : Type 0} (f : A → B) (xs : List A) (x : A) → map f (xs ++ x ∷ []) ≡ map f xs ++ f x ∷ []
+map_push f [] x = refl
+map_push f (y ∷ ys) x = ap (λ (l : List _). f y ∷ l) (map_push f ys x)
+
+map_join : {A B : Type 0} (f : A → B) (xs ys : List A) → map f (xs ++ ys) ≡ map f xs ++ map f ys
+map_join f [] ys = refl
+map_join f (x ∷ xs) ys = ap (λ (l : List _). f x ∷ l) (map_join f xs ys)
+
+pub operated : (n : Numbers) (old mid new : Core) (f : Operation → Command) (xs : List Operation) (x : Operation) (answer : Answered) (before between after : List ℕ) → Does n old mid (map f xs) GoesOn before between
+    → Does n mid new (f x ∷ []) answer between after → Does n old new (map f (xs ++ x ∷ [])) answer before after
+operated n old mid new f xs x answer before between after first second = rw map_push (does_more n old mid new (map f xs) (f x ∷ []) answer before between after first second)
+
+pub operated_all : (n : Numbers) (old mid new : Core) (f : Operation → Command) (xs : List Operation) (x : Operation) (rest all : List Operation) (answer : Answered) (before between after : List ℕ) → is_going answer ≡ false → all ≡ xs ++ x ∷ rest
+    → Does n old mid (map f xs) GoesOn before between → Does n mid new (f x ∷ []) answer between after → Does n old new (map f all) answer before after
+operated_all n old mid new f xs x rest all answer before between after stops is first second =
+    let shape : map f all ≡ map f (xs ++ x ∷ []) ++ map f rest = ap (map f) (is ∙ sym (append_assoc xs (x ∷ []) rest)) ∙ map_join f (xs ++ x ∷ []) rest in
+    rw shape (does_all n old new (map f (xs ++ x ∷ [])) (map f rest) answer before after stops (operated n old mid new f xs x answer before between after first second))
+
+-- ---- what an iterator has left
+
+pub nothing_left : {A : Type 0} (xs : List A) → length xs ≡ 0 → xs ≡ []
+nothing_left [] e = refl
+nothing_left (x ∷ xs) e = absurd cc
+
+pub one_less : {A : Type 0} (x : A) (old new : List A) (before after : ℕ) → length old ≡ before → old ≡ x ∷ new → after + 1 ≡ before → length new ≡ after
+one_less x old new before after count is less = let more : length old ≡ suc (length new) = ap (λ (l : List _). length l) is in omega (arith, count, less, more)

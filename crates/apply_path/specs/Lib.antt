@@ -1,5 +1,5 @@
-pub mod Plain
-pub mod Answers
-pub mod Commands
+pub mod History
+pub mod Fates
+pub mod Serves
 pub mod Applied
-pub mod Sessions
+pub mod Laws

@@ -1,13 +1,15 @@
 //! The run of `apply`: a stream of requests is answered as the one-thread server answers it.
 #![tactic(auto)]
 
-mod answers;
 mod apply;
-mod feed;
-mod piece;
-mod plain;
-mod put;
+mod laws;
 mod session;
+mod step;
 
 pub use apply::apply_stream;
-pub use put::put_all;
+pub use laws::answers_are_the_servers;
+pub use message_run::put_all;
+pub use session::Session;
+
+#[cfg(test)]
+mod tests;

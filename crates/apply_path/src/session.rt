@@ -1,111 +1,270 @@
-ghost use Rattle.std.specs.Prelude.{◌≡◌, ◌≢◌, ◌+◌, ◌<◌, ◌^◌, ◌++◌, ◌∷◌, [], pos, List, ℕ, IfOk, OnOk, OnErr, Err, Some, None, length};
-ghost use Rattle.rib_core.specs.History.{entry, commands, played, reply_of};
-ghost use Rattle.rib_core.specs.Plain.{IsPlain};
-ghost use Rattle.rib_core.specs.Stands.{Stands};
-ghost use Rattle.apply_path.specs.declared.plain.Refusal.TheVariants.{NotPlain};
-ghost use Rattle.apply_path.specs.Answers.{answer_bytes};
+ghost use Rattle.std.specs.Prelude.{◌≡◌, ◌+◌, ◌<◌, ◌≤◌, ◌^◌, ◌++◌, ◌∷◌, [], List, map, pos, IfOk};
+ghost use Rattle.std.specs.Option.{option_map_or};
+ghost use Rattle.table_model.specs.Event.{Event, is_no_memory};
+ghost use Rattle.session_engine.specs.Orders.{commands_of};
+ghost use Rattle.apply_path.specs.Fates.{config_of};
+ghost use Rattle.apply_path.specs.Serves.{Stood, Does, Unreads, Begun};
 
-use crate::answers::append_answer;
-use crate::plain::{Refusal, Stage, message_command};
-use rib_core::{Command, Reply, RibCore};
+use crate::step::do_command;
+use message_run::{Answered, Answerer};
+use proto_schema::MessageFault;
+use rib_core::RibCore;
 use schema_numbers::Numbering;
+use session_engine::{Operations, Orders, Setting, read_orders};
 use std::alloc::{AllocError, Global};
+use table_model::{AskedParams, Command, Config, Operation, Reply};
 
-/// The session of one input: its table, what the input has next, how many messages there were, and room for an answer.
-#[derive(Drop)]
-pub struct Session {
-    pub core: RibCore,
-    pub stage: Stage,
-    pub moment: u64,
-    message: Vec<u8>,
-}
-
-// Does a command behind those that were done, and appends its answer.
-fn do_command(
+// Sets the parameters that are asked for.
+fn do_params(
     alloc: Global,
     n: &Numbering,
     core: &mut RibCore,
-    command: Command,
+    asked: Option<AskedParams>,
     message: &mut Vec<u8>,
     out: &mut Vec<u8>,
-) -> Result<(), Refusal>
-    requires room { core.old.events < 2 ^ 62 }
-    requires plain { (done : List Command) × Stands core.old (played done) × IsPlain (done ++ command ∷ []) }
-    ensures ok { (done : List Command) → Stands core.old (played done) → OnOk result (Stands core.new (played (done ++ command ∷ []))) }
-    ensures answer { (done : List Command) → Stands core.old (played done) →
-        OnOk result (out.new.items ≡ out.old.items ++ answer_bytes n.now (entry command (reply_of (played done) command))) }
-    ensures err { OnErr result (out.new.items ≡ out.old.items) }
-    ensures not_plain { result ≢ Err NotPlain }
+) -> Answered
+    requires stood { (config : Config) × (past : List Event) × Stood config core.old past }
+    requires few { core.old.count ≤ 2 ^ 61 }
+    ensures { Does n.now core.old core.new (option_map_or (λ asked. Command.SetParams 0 asked ∷ []) asked []) result out.old.items out.new.items }
 {
-    let reply = core.act(command);
-    if reply == Reply::NoMemory {
-        return Err(Refusal::NoMemory);
+    match asked {
+        None => Answered::GoesOn,
+        Some(asked) => {
+            let command = Command::SetParams(0, asked);
+            do_command(alloc, n, core, command, false, 0, 0, message, out)
+        }
     }
-    append_answer(alloc, n, command, reply, message, out)?;
-    Ok(())
 }
 
-// A number as a moment.
-fn moment_of(number: u64) -> i64
-    requires { number < 2 ^ 62 }
-    ensures { result ≡ pos number }
+// Announces the election id.
+fn do_election(
+    alloc: Global,
+    n: &Numbering,
+    core: &mut RibCore,
+    election: Option<u128>,
+    message: &mut Vec<u8>,
+    out: &mut Vec<u8>,
+) -> Answered
+    requires stood { (config : Config) × (past : List Event) × Stood config core.old past }
+    requires few { core.old.count ≤ 2 ^ 61 }
+    ensures { Does n.now core.old core.new (option_map_or (λ id. Command.Announce 0 id ∷ []) election []) result out.old.items out.new.items }
 {
-    number as i64
+    match election {
+        None => Answered::GoesOn,
+        Some(id) => {
+            let command = Command::Announce(0, id);
+            do_command(alloc, n, core, command, false, 0, 0, message, out)
+        }
+    }
 }
 
-impl Session {
-    ghost use Rattle.schema_numbers.specs.Numbers.{Numbers};
-    ghost use Rattle.apply_path.specs.Commands.{commands_of};
-    ghost use Rattle.apply_path.specs.Sessions.{Serves, Answered, command_at};
-    ghost use Rattle.rib_core.specs.declared.Command.TheVariants.{Leave};
+fn do_operation(
+    alloc: Global,
+    n: &Numbering,
+    core: &mut RibCore,
+    operation: Operation,
+    number: u64,
+    message: &mut Vec<u8>,
+    out: &mut Vec<u8>,
+) -> Answered
+    requires number { number < 2 ^ 62 }
+    requires stood { (config : Config) × (past : List Event) × Stood config core.old past }
+    ensures { Does n.now core.old core.new (Command.Operate 0 operation (pos number) ∷ []) result out.old.items out.new.items }
+{
+    let id = operation.id;
+    let now = number as i64;
+    let command = Command::Operate(0, operation, now);
+    do_command(alloc, n, core, command, true, id, now, message, out)
+}
+
+fn do_operations(
+    alloc: Global,
+    n: &Numbering,
+    core: &mut RibCore,
+    operations: Operations,
+    number: u64,
+    message: &mut Vec<u8>,
+    out: &mut Vec<u8>,
+) -> Answered
+    requires number { number < 2 ^ 62 }
+    requires stood { (config : Config) × (past : List Event) × Stood config core.old past }
+    requires few { core.old.count ≤ 2 ^ 61 }
+    ensures { Does n.now core.old core.new (map (λ operation. Command.Operate 0 operation (pos number)) operations) result out.old.items out.new.items }
+{
+    for operation in operations.into_vec() {
+        match do_operation(alloc, n, core, operation, number, message, out) {
+            Answered::GoesOn => {}
+            Answered::Ends(code) => return Answered::Ends(code),
+            Answered::Unread(place) => return Answered::Unread(place),
+            Answered::NoMemory => return Answered::NoMemory,
+        }
+    }
+    Answered::GoesOn
+}
+
+// Sets the parameters, and announces the election id.
+fn do_first(
+    alloc: Global,
+    n: &Numbering,
+    core: &mut RibCore,
+    params: Option<AskedParams>,
+    election: Option<u128>,
+    message: &mut Vec<u8>,
+    out: &mut Vec<u8>,
+) -> Answered
+    requires stood { (config : Config) × (past : List Event) × Stood config core.old past }
+    requires few { core.old.count ≤ 2 ^ 61 }
+    ensures { Does n.now core.old core.new (option_map_or (λ asked. Command.SetParams 0 asked ∷ []) params [] ++ option_map_or (λ id. Command.Announce 0 id ∷ []) election []) result out.old.items out.new.items }
+{
+    match do_params(alloc, n, core, params, message, out) {
+        Answered::GoesOn => do_election(alloc, n, core, election, message, out),
+        Answered::Ends(code) => Answered::Ends(code),
+        Answered::Unread(place) => Answered::Unread(place),
+        Answered::NoMemory => Answered::NoMemory,
+    }
+}
+
+// Lets operations go.
+fn discard(operations: Operations) {
+    let _ = operations;
+}
+
+fn do_orders(
+    alloc: Global,
+    n: &Numbering,
+    core: &mut RibCore,
+    orders: Orders,
+    number: u64,
+    message: &mut Vec<u8>,
+    out: &mut Vec<u8>,
+) -> Answered
+    requires number { number < 2 ^ 62 }
+    requires stood { (config : Config) × (past : List Event) × Stood config core.old past }
+    requires few { core.old.count ≤ 2 ^ 61 }
+    ensures { Does n.now core.old core.new (commands_of 0 (pos number) orders) result out.old.items out.new.items }
+{
+    let Orders {
+        params,
+        election,
+        operations,
+    } = orders;
+    match do_first(alloc, n, core, params, election, message, out) {
+        Answered::GoesOn => do_operations(alloc, n, core, operations, number, message, out),
+        Answered::Ends(code) => {
+            discard(operations);
+            Answered::Ends(code)
+        }
+        Answered::Unread(place) => {
+            discard(operations);
+            Answered::Unread(place)
+        }
+        Answered::NoMemory => {
+            discard(operations);
+            Answered::NoMemory
+        }
+    }
+}
+
+// What a message comes to that can't be read.
+fn unread(fault: MessageFault) -> Answered
+    ensures { Unreads fault result }
+{
+    match fault {
+        MessageFault::Wire(place, _) => Answered::Unread(place),
+        MessageFault::Utf8(place) => Answered::Unread(place),
+        MessageFault::NoMemory => Answered::NoMemory,
+    }
+}
+
+// A table in which the session has begun.
+fn begun(alloc: Global, instances: u16) -> Result<RibCore, AllocError>
+    ensures { IfOk result (λ core. Begun instances core) }
+{
+    if instances == 0 || instances > 256 {
+        return Err(AllocError);
+    }
+    let config = Config {
+        instances,
+        workers: 1,
+        limit: 1_000_000,
+    };
+    let mut core = RibCore::new(alloc, config)?;
+    if is_lack(core.act(Command::Begin)) {
+        return Err(AllocError);
+    }
+    Ok(core)
+}
+
+fn is_lack(reply: Reply) -> bool
+    ensures { result ≡ is_no_memory reply }
+{
+    match reply {
+        Reply::NoMemory => true,
+        _ => false,
+    }
+}
+
+/// The session of one input: its table, how many messages there were, and room for an answer.
+#[derive(Drop)]
+pub struct Session<'a> {
+    alloc: Global,
+    setting: &'a Setting,
+    core: RibCore,
+    count: u64,
+    message: Vec<u8>,
+}
+
+impl<'a> Session<'a> {
+    ghost use Rattle.std.specs.Prelude.{[]};
+    ghost use Rattle.apply_path.specs.Serves.{Serves};
 
     /// A session that has begun, before any message.
-    pub fn new(alloc: Global) -> Result<Session, AllocError>
-        ensures { IfOk result (λ session. (n : Numbers) → Serves n session []) }
+    pub fn new(alloc: Global, setting: &'a Setting) -> Result<Session<'a>, AllocError>
+        ensures setting { IfOk result (λ session. session.setting.now ≡ setting.now) }
+        ensures begun { IfOk result (λ session. Serves setting.now session.core session.count []) }
     {
-        let mut core = RibCore::new(alloc)?;
-        if core.act(Command::Begin) == Reply::NoMemory {
-            return Err(AllocError);
-        }
+        let core = begun(alloc, setting.instances.count())?;
         Ok(Session {
+            alloc,
+            setting,
             core,
-            stage: Stage::Params,
-            moment: 0,
+            count: 0,
             message: Vec::new(alloc),
         })
     }
+}
 
-    /// Acts on a message, and appends its answer to `out`.
-    pub fn answer(
-        &mut self,
-        alloc: Global,
-        n: &Numbering,
-        message: &[u8],
-        out: &mut Vec<u8>,
-    ) -> Result<(), Refusal>
-        requires short { self.old.moment < 2 ^ 61 }
-        requires served { (messages : List (List ℕ)) × Serves n.now self.old messages }
-        ensures ok { (messages : List (List ℕ)) → Serves n.now self.old messages → OnOk result (Answered n.now self.new messages message.now out.old.items out.new.items) }
-        ensures not_plain { result ≡ Err NotPlain → command_at n.now self.old.stage message.now (pos (self.old.moment + 1)) ≡ None }
-        ensures kept { result ≡ Err NotPlain → self.new ≡ self.old }
-        ensures err { OnErr result (out.new.items ≡ out.old.items) }
-        ensures moment { OnOk result (self.new.moment ≡ self.old.moment + 1) }
-        ensures still { OnErr result (self.new.moment ≡ self.old.moment) }
-    {
-        let moment = self.moment + 1;
-        let (command, stage) = message_command(alloc, n, self.stage, message, moment_of(moment))?;
-        do_command(alloc, n, &mut self.core, command, &mut self.message, out)?;
-        self.moment = moment;
-        self.stage = stage;
-        Ok(())
+impl<'a> Answerer for Session<'a> {
+    ghost use Rattle.apply_path.specs.Fates.{apply_answering};
+    ghost use Rattle.apply_path.specs.Serves.{Serves, HasLeft};
+
+    ghost fate = { λ s. apply_answering s.setting.now };
+
+    ghost stands = { λ s done. Serves s.setting.now s.core s.count done };
+
+    ghost left = { λ s done. HasLeft s.setting.now s.core done };
+
+    fn answer(&mut self, message: &[u8], out: &mut Vec<u8>) -> Answered {
+        let setting = self.setting;
+        match read_orders(self.alloc, setting, message) {
+            Err(fault) => unread(fault),
+            Ok(orders) => {
+                self.count += 1;
+                do_orders(
+                    self.alloc,
+                    &setting.numbering,
+                    &mut self.core,
+                    orders,
+                    self.count,
+                    &mut self.message,
+                    out,
+                )
+            }
+        }
     }
 
-    /// The session leaves.
-    pub fn leave(&mut self, n: &Numbering)
-        requires short { self.old.moment < 2 ^ 61 }
-        requires served { (messages : List (List ℕ)) × Serves n.now self.old messages }
-        ensures left { (messages : List (List ℕ)) → Serves n.now self.old messages → Stands self.new.core (played (commands_of n.now messages ++ Leave 0 ∷ [])) }
-    {
-        let _ = self.core.act(Command::Leave(0));
+    fn leave(&mut self) {
+        let reply = self.core.act(Command::Leave(0));
+        let _ = is_lack(reply);
     }
 }

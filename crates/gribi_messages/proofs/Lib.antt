@@ -1,1 +1,11 @@
-pub mod VarintSize
+pub mod Texts
+pub mod Schemas
+pub mod NamesAsked
+pub mod Hearing
+pub mod Single
+pub mod TwoNumbers
+pub mod ReadAgain
+pub mod Answered
+pub mod Embedded
+pub mod Asked
+pub mod Flushed

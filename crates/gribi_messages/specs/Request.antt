@@ -1,17 +1,18 @@
--- What the bytes of a ModifyRequest say.
-use Rattle.std.specs.Prelude.{◌≡◌, ℕ, ◌+◌, ◌*◌, ◌^◌, List, [], ◌∷◌, map, length, Option, Some, None, Bool, true, Result, Ok, Err, ◌==◌, if◌then◌else◌}
-use Rattle.std.specs.Option.{option_map, option_map_or, option_and_then}
+-- What the bytes of a ModifyRequest say (gRIBI, Protocol Buffers encoding).
+use Rattle.std.specs.Prelude.{ℕ, ◌+◌, ◌*◌, ◌^◌, List, [], ◌∷◌, map, Option, Some, None, ◌==◌, if◌then◌else◌}
+use Rattle.std.specs.Option.{option_map}
 use Rattle.schema_numbers.specs.Numbers.{Numbers, field_of, value_of}
 use Rattle.schema_numbers.specs.declared.names.FieldName.TheVariants as field
 use Rattle.schema_numbers.specs.declared.names.ValueName.TheVariants as value
-use Rattle.proto_schema.specs.declared.legal.MessageFault.{MessageFault}
-use Rattle.proto_schema.specs.declared.legal.MessageFault.TheVariants.{Wire, Utf8, NoMemory}
-use Rattle.proto_schema.specs.Words.{number_at, text_at, message_at, repeated_at, chosen_at}
-use Rattle.gribi_messages.specs.declared.request.Op.{Op}
-use Rattle.gribi_messages.specs.declared.request.Op.TheVariants.{Add, Replace, Delete}
+use Rattle.proto_schema.specs.Words.{number_at, message_at, repeated_at, chosen_at}
+use Rattle.aft_entries.specs.declared.key.Kind.TheVariants as kind
+use Rattle.aft_entries.specs.declared.operation.Op.{Op}
+use Rattle.aft_entries.specs.declared.operation.Op.TheVariants.{Add, Replace, Delete}
+use Rattle.aft_entries.specs.declared.operation.RawEntry.{RawEntry}
+use Rattle.aft_entries.specs.declared.operation.RawEntry.TheVariants.{Mac, Policy}
+use Rattle.aft_entries.specs.declared.operation.RawOperation.{RawOperation}
+use Rattle.aft_messages.specs.Reading.{name_at, entry_of}
 use Rattle.gribi_messages.specs.declared.request.RawParams.{RawParams}
-use Rattle.gribi_messages.specs.declared.request.RawHop.{RawHop}
-use Rattle.gribi_messages.specs.declared.request.RawOperation.{RawOperation}
 use Rattle.gribi_messages.specs.declared.request.ModifyRequest.{ModifyRequest}
 
 abbrev pub params_of : Numbers → List ℕ → RawParams
@@ -32,12 +33,6 @@ op_of n number =
     if number == value_of n value.OpDelete then Some Delete else
     None
 
-abbrev pub hop_of : Numbers → List ℕ → RawHop
-hop_of n bytes = record {
-  index = number_at (field_of n field.NextHopKeyIndex) bytes;
-  is_empty = option_map_or (λ payload. length payload == 0) (message_at (field_of n field.NextHopKeyNextHop) bytes) true;
-}
-
 -- the members of the oneof that an operation's entry is
 abbrev pub entry_members : Numbers → List ℕ
 entry_members n =
@@ -50,15 +45,23 @@ entry_members n =
     field_of n field.AftOperationPolicyForwardingEntry ∷
     []
 
-abbrev pub hop_member : Numbers → (ℕ × List ℕ) → Option RawHop
-hop_member n member = if member.0 == field_of n field.AftOperationNextHop then Some (hop_of n member.1) else None
+-- What a member of that oneof says. Of the last two the bytes are not read.
+abbrev pub member_entry : Numbers → (ℕ × List ℕ) → RawEntry
+member_entry n member =
+    if member.0 == field_of n field.AftOperationIpv4 then entry_of n kind.V4 member.1 else
+    if member.0 == field_of n field.AftOperationIpv6 then entry_of n kind.V6 member.1 else
+    if member.0 == field_of n field.AftOperationMpls then entry_of n kind.Label member.1 else
+    if member.0 == field_of n field.AftOperationNextHopGroup then entry_of n kind.Group member.1 else
+    if member.0 == field_of n field.AftOperationNextHop then entry_of n kind.Hop member.1 else
+    if member.0 == field_of n field.AftOperationMacAddress then Mac else
+    Policy
 
 unfoldable pub operation_of : Numbers → List ℕ → RawOperation
 operation_of n bytes = record {
   id = number_at (field_of n field.AftOperationId) bytes;
-  instance = text_at (field_of n field.AftOperationNetworkInstance) bytes;
+  instance = name_at (field_of n field.AftOperationNetworkInstance) bytes;
   op = op_of n (number_at (field_of n field.AftOperationOp) bytes);
-  hop = option_and_then (hop_member n) (chosen_at (entry_members n) bytes);
+  entry = option_map (member_entry n) (chosen_at (entry_members n) bytes);
   election = option_map (uint128_of n) (message_at (field_of n field.AftOperationElectionId) bytes);
 }
 
@@ -74,10 +77,3 @@ modify_request n bytes = record {
   params = parameters_of n bytes;
   election = option_map (uint128_of n) (message_at (field_of n field.ModifyRequestElectionId) bytes);
 }
-
--- A decoder gives the value exactly where there is no fault, and else the first one.
-abbrev pub Decodes : {A : Type 0} → Result A MessageFault → Option MessageFault → A → Type 0
-Decodes (Ok read) fault value = (fault ≡ None) × (read ≡ value)
-Decodes (Err (Wire place found)) fault value = fault ≡ Some (Wire place found)
-Decodes (Err (Utf8 place)) fault value = fault ≡ Some (Utf8 place)
-Decodes (Err NoMemory) fault value = Unit {0}

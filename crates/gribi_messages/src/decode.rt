@@ -1,18 +1,18 @@
-ghost use Rattle.std.specs.Prelude.{◌≡◌, IfOk, map};
-ghost use Rattle.std.specs.Option.{option_map, option_and_then};
+ghost use Rattle.std.specs.Prelude.{◌≡◌, ◌++◌, IfOk, OnOk, map, unwrap_or};
+ghost use Rattle.std.specs.Option.{option_map};
 ghost use Rattle.proto_schema.specs.declared.schema.MessageKind.TheVariants as message;
 ghost use Rattle.proto_schema.specs.Legal.{first_fault as fault_of};
-ghost use Rattle.proto_schema.specs.Words.{message_at as joined_at, chosen_at as chosen_member, repeated_at};
+ghost use Rattle.proto_schema.specs.Words.{message_at as joined_at, repeated_at};
+ghost use Rattle.proto_schema.specs.Chosen.{chosen_seen};
 ghost use Rattle.schema_numbers.specs.Numbers.{field_of};
-ghost use Rattle.gribi_messages.specs.Request.{params_of as params_said, uint128_of as uint128_said, hop_of as hop_said, op_of as op_said, operation_of as operation_said, hop_member, entry_members, modify_request, operations_of as operations_said, parameters_of as parameters_said, Decodes};
+ghost use Rattle.aft_messages.specs.Decodes.{Decodes};
+ghost use Rattle.gribi_messages.specs.Request.{params_of as params_said, uint128_of as uint128_said, op_of as op_said, operation_of as operation_said, member_entry, entry_members, modify_request, operations_of as operations_said, parameters_of as parameters_said};
 
-use crate::lists::RawOperations;
-use crate::name::Name;
-use crate::request::{ModifyRequest, Op, RawHop, RawOperation, RawParams};
-use proto_schema::{
-    MessageFault, MessageKind, chosen_at, first_fault, message_at, number_at, piece_of, text_at,
-};
-use proto_wire::{FieldReader, Next};
+use crate::heard::{hear, hear_request, numbers_at};
+use crate::request::{ModifyRequest, RawParams};
+use aft_entries::{Kind, Op, RawEntry, RawOperation};
+use aft_messages::{read_entry, read_text};
+use proto_schema::{Chosen, MessageFault, MessageKind, first_fault, message_at, number_at};
 use schema_numbers::{FieldName, Numbering, ValueName};
 use std::alloc::{AllocError, Global};
 
@@ -26,15 +26,18 @@ fn params_of(n: &Numbering, bytes: &[u8]) -> RawParams
     }
 }
 
-fn uint128_of(n: &Numbering, bytes: &[u8]) -> u128
+/// A number of 128 bits.
+pub fn uint128_of(n: &Numbering, bytes: &[u8]) -> u128
     ensures { result ≡ uint128_said n.now bytes.now }
 {
-    let high = u128::from(number_at(n.field(FieldName::Uint128High), bytes));
-    let low = u128::from(number_at(n.field(FieldName::Uint128Low), bytes));
-    high * 0x1_0000_0000_0000_0000 + low
+    let high_number = n.field(FieldName::Uint128High);
+    let (high, low) = numbers_at(high_number, n.field(FieldName::Uint128Low), bytes);
+    let high = u128::from(high.unwrap_or(0));
+    high * 0x1_0000_0000_0000_0000 + u128::from(low.unwrap_or(0))
 }
 
-fn op_of(n: &Numbering, number: u64) -> Option<Op>
+/// The operation of a number, where it is in the table.
+pub fn op_of(n: &Numbering, number: u64) -> Option<Op>
     ensures { result ≡ op_said n.now number }
 {
     if number == n.value(ValueName::OpAdd) {
@@ -48,20 +51,8 @@ fn op_of(n: &Numbering, number: u64) -> Option<Op>
     }
 }
 
-fn hop_of(alloc: Global, n: &Numbering, bytes: &[u8]) -> Result<RawHop, AllocError>
-    ensures { IfOk result (λ hop. hop ≡ hop_said n.now bytes.now) }
-{
-    let is_empty = match message_at(alloc, n.field(FieldName::NextHopKeyNextHop), bytes)? {
-        None => true,
-        Some(payload) => payload.as_bytes().is_empty(),
-    };
-    Ok(RawHop {
-        index: number_at(n.field(FieldName::NextHopKeyIndex), bytes),
-        is_empty,
-    })
-}
-
-fn election_of(
+/// An election id in an embedded message.
+pub fn election_of(
     alloc: Global,
     n: &Numbering,
     wanted: u32,
@@ -75,87 +66,78 @@ fn election_of(
     }
 }
 
-fn entry_of(alloc: Global, n: &Numbering, bytes: &[u8]) -> Result<Option<RawHop>, AllocError>
-    ensures { IfOk result (λ hop. hop ≡ option_and_then (hop_member n.now) (chosen_member (entry_members n.now) bytes.now)) }
+// What a member of the oneof of an entry says.
+fn entry_of(alloc: Global, n: &Numbering, member: &Chosen<'_>) -> Result<RawEntry, AllocError>
+    ensures { IfOk result (λ entry. entry ≡ member_entry n.now (chosen_seen member.now)) }
 {
-    let members = [
-        n.field(FieldName::AftOperationIpv4),
-        n.field(FieldName::AftOperationIpv6),
-        n.field(FieldName::AftOperationMpls),
-        n.field(FieldName::AftOperationNextHopGroup),
-        n.field(FieldName::AftOperationNextHop),
-        n.field(FieldName::AftOperationMacAddress),
-        n.field(FieldName::AftOperationPolicyForwardingEntry),
-    ];
-    match chosen_at(alloc, &members, bytes)? {
-        None => Ok(None),
-        Some(entry) => {
-            if entry.number == n.field(FieldName::AftOperationNextHop) {
-                Ok(Some(hop_of(alloc, n, entry.bytes.as_bytes())?))
-            } else {
-                Ok(None)
-            }
-        }
+    let bytes = member.bytes.as_bytes();
+    let number = member.number;
+    if number == n.field(FieldName::AftOperationIpv4) {
+        read_entry(alloc, n, bytes, Kind::V4)
+    } else if number == n.field(FieldName::AftOperationIpv6) {
+        read_entry(alloc, n, bytes, Kind::V6)
+    } else if number == n.field(FieldName::AftOperationMpls) {
+        read_entry(alloc, n, bytes, Kind::Label)
+    } else if number == n.field(FieldName::AftOperationNextHopGroup) {
+        read_entry(alloc, n, bytes, Kind::Group)
+    } else if number == n.field(FieldName::AftOperationNextHop) {
+        read_entry(alloc, n, bytes, Kind::Hop)
+    } else if number == n.field(FieldName::AftOperationMacAddress) {
+        Ok(RawEntry::Mac)
+    } else {
+        Ok(RawEntry::Policy)
     }
 }
 
-#[tactic(auto, unfolding(crate::specs::Request::operation_of))]
-fn operation_of(alloc: Global, n: &Numbering, bytes: &[u8]) -> Result<RawOperation, AllocError>
-    ensures { IfOk result (λ operation. operation ≡ operation_said n.now bytes.now) }
-{
-    let text = text_at(n.field(FieldName::AftOperationNetworkInstance), bytes);
-    let instance = Name::new(alloc, text)?;
-    let hop = entry_of(alloc, n, bytes)?;
-    let election = election_of(alloc, n, n.field(FieldName::AftOperationElectionId), bytes)?;
-    Ok(RawOperation {
-        id: number_at(n.field(FieldName::AftOperationId), bytes),
-        instance,
-        op: op_of(n, number_at(n.field(FieldName::AftOperationOp), bytes)),
-        hop,
-        election,
-    })
-}
-
-fn operations_of(alloc: Global, n: &Numbering, bytes: &[u8]) -> Result<RawOperations, AllocError>
-    ensures { IfOk result (λ all. all ≡ operations_said n.now bytes.now) }
-{
-    let wanted = n.field(FieldName::ModifyRequestOperation);
-    let mut all = RawOperations::new(alloc);
-    let mut reader = FieldReader::new(bytes);
-    loop {
-        match reader.next() {
-            Next::Field(field) => {
-                if let Some(piece) = piece_of(wanted, &field) {
-                    all.push(operation_of(alloc, n, piece)?)?;
-                }
-            }
-            _ => return Ok(all),
-        }
-    }
-}
-
-fn parameters_of(
+fn entry_if(
     alloc: Global,
     n: &Numbering,
-    bytes: &[u8],
-) -> Result<Option<RawParams>, AllocError>
-    ensures { IfOk result (λ params. params ≡ parameters_said n.now bytes.now) }
+    member: &Option<Chosen<'_>>,
+) -> Result<Option<RawEntry>, AllocError>
+    ensures { IfOk result (λ entry. entry ≡ option_map (member_entry n.now) (option_map chosen_seen member.now)) }
 {
-    match message_at(alloc, n.field(FieldName::ModifyRequestParams), bytes)? {
+    match member {
         None => Ok(None),
-        Some(params) => Ok(Some(params_of(n, params.as_bytes()))),
+        Some(member) => Ok(Some(entry_of(alloc, n, member)?)),
     }
+}
+
+/// What the bytes of an operation say.
+#[tactic(auto, unfolding(crate::specs::Request::operation_of))]
+pub fn operation_of(alloc: Global, n: &Numbering, bytes: &[u8]) -> Result<RawOperation, AllocError>
+    ensures { IfOk result (λ operation. operation ≡ operation_said n.now bytes.now) }
+{
+    let heard = hear(alloc, n, bytes)?;
+    let instance = read_text(alloc, heard.instance.unwrap_or(&[]))?;
+    let entry = entry_if(alloc, n, &heard.entry)?;
+    let election = match &heard.election {
+        None => None,
+        Some(id) => Some(uint128_of(n, id.as_bytes())),
+    };
+    Ok(RawOperation {
+        id: heard.id.unwrap_or(0),
+        instance,
+        op: op_of(n, heard.op.unwrap_or(0)),
+        entry,
+        election,
+    })
 }
 
 #[tactic(auto, unfolding(crate::specs::Request::modify_request))]
 fn request_of(alloc: Global, n: &Numbering, bytes: &[u8]) -> Result<ModifyRequest, AllocError>
     ensures { IfOk result (λ request. request ≡ modify_request n.now bytes.now) }
 {
-    let operations = operations_of(alloc, n, bytes)?;
-    let params = parameters_of(alloc, n, bytes)?;
-    let election = election_of(alloc, n, n.field(FieldName::ModifyRequestElectionId), bytes)?;
+    let heard = hear_request(alloc, n, bytes)?;
+    let params = match &heard.params {
+        None => None,
+        Some(params) => Some(params_of(n, params.as_bytes())),
+    };
+    let election = match &heard.election {
+        None => None,
+        Some(id) => Some(uint128_of(n, id.as_bytes())),
+    };
     Ok(ModifyRequest {
-        operations,
+        operations: heard.operations,
         params,
         election,
     })

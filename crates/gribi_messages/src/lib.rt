@@ -1,19 +1,41 @@
 //! The messages of gRIBI, read from bytes and written as bytes, over a numbering.
 #![tactic(auto)]
 
+mod asks;
 mod decode;
+mod flush;
+mod get;
+mod heard;
+mod instance;
+mod laws;
 mod lists;
-mod name;
+mod read_response;
 mod request;
 mod response;
-mod sizes;
+mod rows;
+mod write_request;
+mod writers;
 
-pub use decode::decode_modify;
+pub use aft_entries::{Name, Op, RawEntry, RawOperation};
+pub use asks::{FlushAsk, FlushRequest, FlushResponse, GetRequest, InstanceAsk};
+pub use decode::{decode_modify, op_of, uint128_of};
+pub use flush::{decode_flush, decode_flush_response, encode_flush_request, encode_flush_response};
+pub use get::{decode_get, encode_get_request};
+pub use heard::{Heard, hear, only_operation};
+pub use laws::{
+    flush_request_is_read_again, flush_response_is_read_again, get_request_is_read_again,
+    modify_response_is_read_again,
+};
 pub use lists::{AftResults, RawOperations};
-pub use name::Name;
 pub use proto_schema::MessageFault;
-pub use request::{ModifyRequest, Op, RawHop, RawOperation, RawParams};
-pub use response::{AftResult, ModifyResponse, append_modify_response, encode_modify_response};
+pub use read_response::decode_modify_response;
+pub use request::{ModifyRequest, RawParams};
+pub use response::{
+    AftResult, ModifyResponse, append_modify_response, append_result_response,
+    encode_modify_response,
+};
+pub use rows::{GetResponse, RawRow, RawRows, decode_get_response, encode_get_response};
+pub use write_request::encode_modify_request;
 
 #[cfg(test)]
 mod tests;

@@ -1,19 +1,19 @@
 ghost use Rattle.std.specs.Prelude.{◌≡◌, [], ◌∷◌, ◌++◌, OnOk, OnErr};
 
-use crate::request::RawOperation;
 use crate::response::AftResult;
+use aft_entries::RawOperation;
 use std::alloc::{AllocError, Global};
 use std::marker::Model;
 
 /// Operations, in their order. Contracts see the list.
-#[derive(Debug, Drop)]
+#[derive(Drop)]
 pub struct RawOperations {
     items: Vec<RawOperation>,
 }
 
 impl Model for RawOperations {
     ghost use Rattle.std.specs.Prelude.{List};
-    ghost use Rattle.gribi_messages.specs.declared.request.RawOperation.{RawOperation};
+    ghost use Rattle.aft_entries.specs.declared.operation.RawOperation.{RawOperation};
 
     ghost Value = { List RawOperation };
 
@@ -44,6 +44,14 @@ impl RawOperations {
         ensures { result.now ≡ self.now }
     {
         self.items.as_slice()
+    }
+
+    /// The operations, as a vector.
+    pub fn into_vec(self) -> Vec<RawOperation>
+        ensures { result.items ≡ self }
+    {
+        let RawOperations { items } = self;
+        items
     }
 }
 

@@ -1,12 +1,11 @@
-ghost use Rattle.std.specs.Prelude.{◌≡◌, ◌++◌, ◌+◌, ◌*◌, ◌≤◌, [], IfOk, OnOk, OnErr, length};
+ghost use Rattle.std.specs.Prelude.{◌≡◌, ◌++◌, ◌∷◌, ◌≤◌, [], None, IfOk, OnOk, OnErr, length};
 ghost use Rattle.std.specs.Option.{option_map_or};
 ghost use Rattle.std.specs.List.{flat_map};
-ghost use Rattle.proto_wire.specs.Written.{varint};
-ghost use Rattle.gribi_messages.specs.Response.{number_field, result_bytes, result_field, params_field, election_field, response_bytes};
+ghost use Rattle.gribi_messages.specs.Response.{result_bytes, result_field, params_field, election_field, response_bytes};
 
 use crate::lists::AftResults;
-use crate::sizes::number_size;
-use proto_wire::{write_uint, write_varint};
+use crate::writers::write_uint128;
+use aft_messages::{number_size, write_head, write_number, write_two};
 use schema_numbers::{FieldName, Numbering};
 use std::alloc::{AllocError, Global};
 
@@ -26,53 +25,6 @@ pub struct ModifyResponse {
     pub results: AftResults,
     pub params: Option<u64>,
     pub election: Option<u128>,
-}
-
-// A number that is 0 is left out.
-#[tactic(auto, unfolding(crate::specs::Response::number_field))]
-fn write_number(number: u32, value: u64, out: &mut Vec<u8>) -> Result<(), AllocError>
-    ensures ok { OnOk result (out.new.items ≡ out.old.items ++ number_field number value) }
-    ensures err { OnErr result (out.new.items ≡ out.old.items) }
-{
-    if value == 0 {
-        Ok(())
-    } else {
-        write_uint(number, value, out)
-    }
-}
-
-// Two numbers, one behind the other.
-fn write_two(
-    number: u32,
-    value: u64,
-    next_number: u32,
-    next_value: u64,
-    out: &mut Vec<u8>,
-) -> Result<(), AllocError>
-    ensures ok { OnOk result (out.new.items ≡ out.old.items ++ number_field number value ++ number_field next_number next_value) }
-    ensures err { OnErr result (out.new.items ≡ out.old.items) }
-{
-    let before = out.len();
-    write_number(number, value, out)?;
-    if write_number(next_number, next_value, out).is_err() {
-        out.truncate(before);
-        return Err(AllocError);
-    }
-    Ok(())
-}
-
-// What stands before the bytes of an embedded message of this size.
-fn write_head(number: u32, size: usize, out: &mut Vec<u8>) -> Result<(), AllocError>
-    ensures ok { OnOk result (out.new.items ≡ out.old.items ++ varint (number * 8 + 2) ++ varint size) }
-    ensures err { OnErr result (out.new.items ≡ out.old.items) }
-{
-    let before = out.len();
-    write_varint(u64::from(number) * 8 + 2, out)?;
-    if write_varint(size as u64, out).is_err() {
-        out.truncate(before);
-        return Err(AllocError);
-    }
-    Ok(())
 }
 
 #[tactic(auto, unfolding(crate::specs::Response::result_bytes))]
@@ -165,23 +117,12 @@ fn write_params(n: &Numbering, status: u64, out: &mut Vec<u8>) -> Result<(), All
     Ok(())
 }
 
-#[tactic(auto, unfolding(crate::specs::Response::election_field, crate::specs::Response::uint128_bytes))]
+#[tactic(auto, unfolding(crate::specs::Response::election_field))]
 fn write_election(n: &Numbering, id: u128, out: &mut Vec<u8>) -> Result<(), AllocError>
     ensures ok { OnOk result (out.new.items ≡ out.old.items ++ election_field n.now id) }
     ensures err { OnErr result (out.new.items ≡ out.old.items) }
 {
-    let before = out.len();
-    let high_number = n.field(FieldName::Uint128High);
-    let low_number = n.field(FieldName::Uint128Low);
-    let high = (id / 0x1_0000_0000_0000_0000) as u64;
-    let low = (id % 0x1_0000_0000_0000_0000) as u64;
-    let size = number_size(high_number, high) + number_size(low_number, low);
-    write_head(n.field(FieldName::ModifyResponseElectionId), size, out)?;
-    if write_two(high_number, high, low_number, low, out).is_err() {
-        out.truncate(before);
-        return Err(AllocError);
-    }
-    Ok(())
+    write_uint128(n, n.field(FieldName::ModifyResponseElectionId), id, out)
 }
 
 fn write_params_if(n: &Numbering, params: Option<u64>, out: &mut Vec<u8>) -> Result<(), AllocError>
@@ -227,6 +168,19 @@ pub fn append_modify_response(
         return Err(AllocError);
     }
     Ok(())
+}
+
+/// Appends the one spelling of a response that has this result alone. After want of memory `out` is as before.
+#[tactic(auto, unfolding(crate::specs::Response::response_bytes))]
+pub fn append_result_response(
+    n: &Numbering,
+    r: &AftResult,
+    out: &mut Vec<u8>,
+) -> Result<(), AllocError>
+    ensures ok { OnOk result (out.new.items ≡ out.old.items ++ response_bytes n.now (record { results = r.now ∷ []; params = None; election = None })) }
+    ensures err { OnErr result (out.new.items ≡ out.old.items) }
+{
+    write_result(n, r, out)
 }
 
 /// The one spelling of a response, or want of memory.

@@ -3,6 +3,7 @@
 
 mod adapters;
 mod top;
+mod words;
 
 pub use adapters::{Reading, Writing};
 pub use top::gribi_main;

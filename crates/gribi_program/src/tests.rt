@@ -38,6 +38,69 @@ static ALL_PRIMARY: [u8; 7] = [0, 0, 0, 0, 2, 0x12, 0x00];
 
 static COMPRESSED: [u8; 5] = [1, 0, 0, 0, 0];
 
+// An IPv4 route of group 1 alone; next hop 1, group 1 and that route in one message; group 1 deleted.
+static ROUTE: [u8; 49] = [
+    0x00, 0x00, 0x00, 0x00, 0x2c, 0x0a, 0x2a, 0x08, 0x01, 0x12, 0x07, 0x44, 0x45, 0x46, 0x41, 0x55,
+    0x4c, 0x54, 0x18, 0x01, 0x22, 0x17, 0x0a, 0x0f, 0x31, 0x39, 0x38, 0x2e, 0x35, 0x31, 0x2e, 0x31,
+    0x30, 0x30, 0x2e, 0x30, 0x2f, 0x32, 0x34, 0x12, 0x04, 0x0a, 0x02, 0x08, 0x01, 0x5a, 0x02, 0x10,
+    0x01,
+];
+
+static ALL_THREE: [u8; 109] = [
+    0x00, 0x00, 0x00, 0x00, 0x68, 0x0a, 0x17, 0x08, 0x02, 0x12, 0x07, 0x44, 0x45, 0x46, 0x41, 0x55,
+    0x4c, 0x54, 0x18, 0x01, 0x42, 0x04, 0x08, 0x01, 0x12, 0x00, 0x5a, 0x02, 0x10, 0x01, 0x0a, 0x21,
+    0x08, 0x03, 0x12, 0x07, 0x44, 0x45, 0x46, 0x41, 0x55, 0x4c, 0x54, 0x18, 0x01, 0x3a, 0x0e, 0x08,
+    0x01, 0x12, 0x0a, 0x0a, 0x08, 0x08, 0x01, 0x12, 0x04, 0x0a, 0x02, 0x08, 0x01, 0x5a, 0x02, 0x10,
+    0x01, 0x0a, 0x2a, 0x08, 0x04, 0x12, 0x07, 0x44, 0x45, 0x46, 0x41, 0x55, 0x4c, 0x54, 0x18, 0x01,
+    0x22, 0x17, 0x0a, 0x0f, 0x31, 0x39, 0x38, 0x2e, 0x35, 0x31, 0x2e, 0x31, 0x30, 0x30, 0x2e, 0x30,
+    0x2f, 0x32, 0x34, 0x12, 0x04, 0x0a, 0x02, 0x08, 0x01, 0x5a, 0x02, 0x10, 0x01,
+];
+
+static GROUP_AWAY: [u8; 28] = [
+    0x00, 0x00, 0x00, 0x00, 0x17, 0x0a, 0x15, 0x08, 0x05, 0x12, 0x07, 0x44, 0x45, 0x46, 0x41, 0x55,
+    0x4c, 0x54, 0x18, 0x03, 0x3a, 0x02, 0x08, 0x01, 0x5a, 0x02, 0x10, 0x01,
+];
+
+static PARAMS_AND_HOP: [u8; 36] = [
+    0x00, 0x00, 0x00, 0x00, 0x1f, 0x12, 0x04, 0x08, 0x01, 0x10, 0x01, 0x0a, 0x17, 0x08, 0x06, 0x12,
+    0x07, 0x44, 0x45, 0x46, 0x41, 0x55, 0x4c, 0x54, 0x18, 0x01, 0x42, 0x04, 0x08, 0x01, 0x12, 0x00,
+    0x5a, 0x02, 0x10, 0x01,
+];
+
+static FIB_PARAMS: [u8; 13] = [
+    0x00, 0x00, 0x00, 0x00, 0x08, 0x12, 0x06, 0x08, 0x01, 0x10, 0x01, 0x18, 0x01,
+];
+
+static BAD_TAG: [u8; 11] = [
+    0x00, 0x00, 0x00, 0x00, 0x06, 0x1a, 0x02, 0x10, 0x01, 0x00, 0x01,
+];
+
+static UNRESOLVED: [u8; 15] = [
+    0x00, 0x00, 0x00, 0x00, 0x0a, 0x0a, 0x08, 0x08, 0x01, 0x10, 0x02, 0x18, 0x03, 0x20, 0x09,
+];
+
+static THREE_DONE: [u8; 39] = [
+    0x00, 0x00, 0x00, 0x00, 0x08, 0x0a, 0x06, 0x08, 0x02, 0x10, 0x03, 0x18, 0x04, 0x00, 0x00, 0x00,
+    0x00, 0x08, 0x0a, 0x06, 0x08, 0x03, 0x10, 0x03, 0x18, 0x04, 0x00, 0x00, 0x00, 0x00, 0x08, 0x0a,
+    0x06, 0x08, 0x04, 0x10, 0x03, 0x18, 0x04,
+];
+
+static IN_USE: [u8; 15] = [
+    0x00, 0x00, 0x00, 0x00, 0x0a, 0x0a, 0x08, 0x08, 0x05, 0x10, 0x02, 0x18, 0x05, 0x20, 0x0b,
+];
+
+static NOT_PRIMARY: [u8; 15] = [
+    0x00, 0x00, 0x00, 0x00, 0x0a, 0x0a, 0x08, 0x08, 0x01, 0x10, 0x02, 0x18, 0x02, 0x20, 0x01,
+];
+
+static ENDED_9: [u8; 6] = [0x80, 0x00, 0x00, 0x00, 0x01, 0x39];
+
+static ENDED_12: [u8; 7] = [0x80, 0x00, 0x00, 0x00, 0x02, 0x31, 0x32];
+
+static UNREAD_11: [u8; 7] = [0x81, 0x00, 0x00, 0x00, 0x02, 0x31, 0x31];
+
+static UNREAD_20: [u8; 7] = [0x81, 0x00, 0x00, 0x00, 0x02, 0x32, 0x30];
+
 fn joined(alloc: Global, parts: &[&[u8]]) -> Result<Vec<u8>, Fail> {
     let mut bytes = Vec::new(alloc);
     for part in parts {
@@ -76,7 +139,7 @@ fn is_answered(
 }
 
 #[test]
-fn plain_messages_are_answered(rt: HostRuntime) -> Result<(), Fail> {
+fn messages_are_answered(rt: HostRuntime) -> Result<(), Fail> {
     let alloc = rt.alloc();
     assert!(rt; is_answered(alloc, &[], 0, &[])?);
     assert!(rt;
@@ -95,17 +158,65 @@ fn plain_messages_are_answered(rt: HostRuntime) -> Result<(), Fail> {
             &[&PARAMS_SET, &ELECTED, &PROGRAMMED, &PROGRAMMED_NEXT]
         )?
     );
-    assert!(rt; is_answered(alloc, &[&ALL_PRIMARY], 3, &[])?);
-    assert!(rt; is_answered(alloc, &[&PARAMS, &HOP], 3, &[&PARAMS_SET])?);
+    assert!(rt; is_answered(alloc, &[&PARAMS, &HOP], 0, &[&PARAMS_SET, &NOT_PRIMARY])?);
+    assert!(rt;
+        is_answered(
+            alloc,
+            &[&PARAMS, &ELECTION, &ROUTE, &ALL_THREE, &GROUP_AWAY],
+            0,
+            &[&PARAMS_SET, &ELECTED, &UNRESOLVED, &THREE_DONE, &IN_USE]
+        )?
+    );
+    Ok(())
+}
+
+#[test]
+fn a_reply_may_end_the_stream(rt: HostRuntime) -> Result<(), Fail> {
+    let alloc = rt.alloc();
+    assert!(rt; is_answered(alloc, &[&ELECTION], 7, &[&ENDED_9])?);
+    assert!(rt; is_answered(alloc, &[&ALL_PRIMARY], 7, &[&ENDED_12])?);
+    assert!(rt; is_answered(alloc, &[&FIB_PARAMS, &ELECTION], 7, &[&ENDED_12])?);
+    assert!(rt; is_answered(alloc, &[&HOP], 7, &[&ENDED_12])?);
+    // nothing behind that reply is done
+    assert!(rt;
+        is_answered(
+            alloc,
+            &[&PARAMS, &ELECTION, &PARAMS_AND_HOP, &HOP],
+            7,
+            &[&PARAMS_SET, &ELECTED, &ENDED_9]
+        )?
+    );
+    Ok(())
+}
+
+#[test]
+fn an_input_that_cannot_be_read_tells_the_place(rt: HostRuntime) -> Result<(), Fail> {
+    let alloc = rt.alloc();
     assert!(rt;
         is_answered(
             alloc,
             &[&PARAMS, &ELECTION, &HOP[..29]],
             3,
-            &[&PARAMS_SET, &ELECTED]
+            &[&PARAMS_SET, &ELECTED, &UNREAD_20]
         )?
     );
-    assert!(rt; is_answered(alloc, &[&PARAMS, &COMPRESSED, &ELECTION], 3, &[&PARAMS_SET])?);
+    assert!(rt;
+        is_answered(
+            alloc,
+            &[&PARAMS, &COMPRESSED, &ELECTION],
+            3,
+            &[&PARAMS_SET, &UNREAD_11]
+        )?
+    );
+    // a message with a fault gives none of its answers
+    assert!(rt;
+        is_answered(
+            alloc,
+            &[&PARAMS, &BAD_TAG, &ELECTION],
+            3,
+            &[&PARAMS_SET, &UNREAD_20]
+        )?
+    );
     Ok(())
 }
 
@@ -118,6 +229,72 @@ fn other_words_and_failures_end_a_run(rt: HostRuntime) -> Result<(), Fail> {
     assert!(rt; ends_with(alloc, &["apply", "now"], params()?, &[], &[], 2, usage)?);
     assert!(rt; ends_with(alloc, &[], params()?, &[], &[], 2, usage)?);
     assert!(rt; ends_with(alloc, &["now"], params()?, &[], &[0], 2, b"")?);
+    assert!(rt;
+        ends_with(
+            alloc,
+            &["apply", "--instances"],
+            params()?,
+            &[],
+            &[],
+            2,
+            usage
+        )?
+    );
+    assert!(rt;
+        ends_with(
+            alloc,
+            &["apply", "--instances="],
+            params()?,
+            &[],
+            &[],
+            2,
+            usage
+        )?
+    );
+    assert!(rt;
+        ends_with(
+            alloc,
+            &["apply", "--instances", "-A"],
+            params()?,
+            &[],
+            &[],
+            2,
+            usage
+        )?
+    );
+    assert!(rt;
+        ends_with(
+            alloc,
+            &["apply", "--instances", "A,A"],
+            params()?,
+            &[],
+            &[],
+            2,
+            usage
+        )?
+    );
+    assert!(rt;
+        ends_with(
+            alloc,
+            &["apply", "--instances", "A,B"],
+            params()?,
+            &[],
+            &[],
+            0,
+            &PARAMS_SET
+        )?
+    );
+    assert!(rt;
+        ends_with(
+            alloc,
+            &["apply", "--instances=A"],
+            params()?,
+            &[],
+            &[],
+            0,
+            &PARAMS_SET
+        )?
+    );
     assert!(rt; ends_with(alloc, apply, params()?, &[], &[0], 5, b"")?);
     assert!(rt; ends_with(alloc, apply, params()?, &[0], &[], 4, b"")?);
     assert!(rt; ends_with(alloc, apply, params()?, &[1], &[], 4, &PARAMS_SET)?);

@@ -1,22 +1,18 @@
-ghost use Rattle.std.specs.Prelude.{◌≡◌, ◌↔◌, ◌⊎◌, ◌≤◌, ◌∷◌, [], List, ℕ, Some, codes, map, string_bytes, IsTrue};
+ghost use Rattle.std.specs.Prelude.{◌≡◌, ◌⊎◌, ◌≤◌, List, ℕ, Some, None, codes, map, string_bytes};
 ghost use Rattle.rig_io.specs.Fault.{HasCause, StaysUnless, Rose};
-ghost use Rattle.schema_numbers.specs.Default.{default_numbers};
-ghost use Rattle.apply_path.specs.Applied.{Applies, IsStatus, Wrote, WrotePart};
-ghost use Rattle.gribi_program.specs.Words.{IsApply};
+ghost use Rattle.message_run.specs.Runs.{IsStatus};
+ghost use Rattle.message_run.specs.Written.{Wrote, WrotePart};
+ghost use Rattle.apply_path.specs.Applied.{Applies, AppliesOver};
+ghost use Rattle.gribi_program.specs.Words.{instances_in};
+ghost use Rattle.gribi_program.specs.Settings.{setting_with};
 
+use crate::words::read_words;
+use aft_entries::Instances;
 use apply_path::{apply_stream, put_all};
 use rig_io::{Sink, Source};
+use schema_numbers::default_numbering;
+use session_engine::Setting;
 use std::alloc::Global;
-
-// Whether the words are the one word `apply`.
-fn is_apply(words: &[String]) -> bool
-    ensures { IsTrue result ↔ IsApply (map (λ w. string_bytes w) words.now) }
-{
-    match words {
-        [word] => word.as_str() == "apply",
-        _ => false,
-    }
-}
 
 // Writes the usage line.
 fn write_usage<K: Sink>(output: &mut K)
@@ -27,22 +23,80 @@ fn write_usage<K: Sink>(output: &mut K)
     let _ = put_all(output, b"usage: gribi apply\n");
 }
 
-/// All that the program does: 2 for other words than a command, else what the command answers. `apply` answers 0 where its input
-/// is plain and all of it is answered, 3 where it isn't plain, 4 and 5 where the input or the output failed, 6 for want of memory.
+// `apply` with these network instances.
+fn apply<S: Source, K: Sink>(
+    alloc: Global,
+    instances: Instances,
+    input: &mut S,
+    output: &mut K,
+) -> u8
+    ensures applies { Applies (setting_with instances) result (record {
+      taken_before = S.taken input.old;
+      taken_after = S.taken input.new;
+      left_before = S.left input.old;
+      left_after = S.left input.new;
+      before = K.placed output.old;
+      after = K.placed output.new;
+    }) }
+    ensures over { (all : List ℕ) → S.left input.old ≡ Some all → AppliesOver (setting_with instances) result all (record {
+      taken_before = S.taken input.old;
+      taken_after = S.taken input.new;
+      left_before = S.left input.old;
+      left_after = S.left input.new;
+      before = K.placed output.old;
+      after = K.placed output.new;
+    }) }
+    ensures status { IsStatus result }
+    ensures read { HasCause (S.faults input.old) (S.faults input.new) (result ≡ 4) }
+    ensures read_stays { StaysUnless (S.faults input.old) (S.faults input.new) (result ≡ 4) }
+    ensures write { HasCause (K.faults output.old) (K.faults output.new) (result ≡ 5) }
+    ensures write_stays { StaysUnless (K.faults output.old) (K.faults output.new) (result ≡ 5) }
+{
+    let Ok(numbering) = default_numbering(alloc) else {
+        return 6;
+    };
+    let setting = Setting {
+        numbering,
+        instances,
+    };
+    apply_stream(alloc, &setting, input, output)
+}
+
+/// All that the program does: 2 for words that are no command, else what the command answers. `apply` answers 0 where its input
+/// is read and answered to its end, 3 where it can't be read, 4 and 5 where the input or the output failed, 6 for want of memory,
+/// and 7 where a reply ended the stream. With 3 and 7 a last item tells the place or the status number.
 pub fn gribi_main<S: Source, K: Sink>(
     alloc: Global,
     words: &[String],
     input: &mut S,
     output: &mut K,
 ) -> u8
-    // 2 exactly where the words are no command. Then the input is left alone, and the usage line is written, whole unless a write failed.
-    ensures words { (result ≡ 2) ↔ ¬ IsApply (map (λ w. string_bytes w) words.now) }
+    // 2 only where the words are no command, and where they are none nothing else but want of memory. Then the input is left
+    // alone, and the usage line is written, whole unless a write failed.
+    ensures words { result ≡ 2 → instances_in (map string_bytes words.now) ≡ None }
+    ensures refused { instances_in (map string_bytes words.now) ≡ None → (result ≡ 2) ⊎ (result ≡ 6) }
     ensures unread { result ≡ 2 → input.new ≡ input.old }
     ensures usage_line { result ≡ 2 → Wrote (K.placed output.old) (codes "usage: gribi apply\n") (K.placed output.new) ⊎ Rose (K.faults output.old) (K.faults output.new) }
     ensures usage_part { result ≡ 2 → WrotePart (K.placed output.old) (codes "usage: gribi apply\n") (K.placed output.new) }
-    // Else the answers of the one-thread server are written, as far as the input is plain.
-    ensures applies { IsApply (map (λ w. string_bytes w) words.now) → (all : List ℕ) → S.left input.old ≡ Some all →
-        Applies default_numbers result all (S.left input.new) (K.placed output.old) (K.placed output.new) }
+    // Else the answers of the one-thread server are written: a function of the bytes that were taken,
+    ensures applies { (names : List (List ℕ)) → instances_in (map string_bytes words.now) ≡ Some names → Applies (setting_with names) result (record {
+      taken_before = S.taken input.old;
+      taken_after = S.taken input.new;
+      left_before = S.left input.old;
+      left_after = S.left input.new;
+      before = K.placed output.old;
+      after = K.placed output.new;
+    }) }
+    // and of the input, where the source tells it.
+    ensures over { (names : List (List ℕ)) → instances_in (map string_bytes words.now) ≡ Some names → (all : List ℕ) → S.left input.old ≡ Some all →
+        AppliesOver (setting_with names) result all (record {
+          taken_before = S.taken input.old;
+          taken_after = S.taken input.new;
+          left_before = S.left input.old;
+          left_after = S.left input.new;
+          before = K.placed output.old;
+          after = K.placed output.new;
+        }) }
     ensures statuses { (result ≡ 2) ⊎ IsStatus result }
     ensures read { HasCause (S.faults input.old) (S.faults input.new) (result ≡ 4) }
     ensures read_stays { StaysUnless (S.faults input.old) (S.faults input.new) (result ≡ 4) }
@@ -50,10 +104,12 @@ pub fn gribi_main<S: Source, K: Sink>(
     // A failed write is told by 5, unless the words are no command.
     ensures write_stays { StaysUnless (K.faults output.old) (K.faults output.new) ((result ≡ 2) ⊎ (result ≡ 5)) }
 {
-    if is_apply(words) {
-        apply_stream(alloc, input, output)
-    } else {
-        write_usage(output);
-        2
+    match read_words(alloc, words) {
+        Err(_) => 6,
+        Ok(None) => {
+            write_usage(output);
+            2
+        }
+        Ok(Some(instances)) => apply(alloc, instances, input, output),
     }
 }

@@ -1,3 +1,2 @@
-pub mod Tables
-pub mod Histories
-pub mod Played
+pub mod Replies
+pub mod Steps

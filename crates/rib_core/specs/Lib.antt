@@ -1,4 +1,5 @@
-pub mod Table
-pub mod History
-pub mod Plain
+pub mod Built
+pub mod Core
+pub mod Decisions
+pub mod Ends
 pub mod Stands

@@ -1,17 +1,31 @@
--- What the fields of the table stand for.
-use Rattle.std.specs.Prelude.{◌≡◌, ℕ, ◌+◌, List, ◌++◌, length}
-use Rattle.rib_core.specs.declared.RibCore.{RibCore}
-use Rattle.rib_core.specs.History.{Entry, events, highest, rib, IsLegal}
+-- The history that a core stands for: each part that it keeps is that of the history, which is lawful.
+use Rattle.std.specs.Prelude.{◌≡◌, false, List, ◌∷◌, length}
+use Rattle.table_model.specs.declared.command.Command.{Command}
+use Rattle.table_model.specs.declared.reply.Reply.{Reply}
+use Rattle.table_model.specs.Event.{Event, events}
+use Rattle.table_model.specs.Legal.{Legal}
+use Rattle.table_model.specs.Rib.{rib}
+use Rattle.table_model.specs.Reply.{is_halted}
+use Rattle.election.specs.Poll as election
+use Rattle.session_params.specs.Book as sessions
+use Rattle.rib_core.specs.Core.{Core}
 
--- the table stands for these entries: they are legal, and each part that is kept is that of the events
-pub record Stands (core : RibCore) (entries : List Entry) : Type 0 where
-  pub legal : IsLegal entries
-  pub hops : core.hops.items ≡ rib (events entries)
-  pub highest : core.highest ≡ highest (events entries)
-  pub count : core.events ≡ length (events entries)
+-- the parts, over the events
+pub record Keeps (core : Core) (past : List Event) : Type 0 where
+  pub count : core.count ≡ length past
+  pub table : core.table.entries ≡ rib past
+  pub poll : election.StandsFor core.poll past
+  pub seats : sessions.StandsFor core.seats past
+  pub running : is_halted past ≡ false
 
--- what is kept is as before
-pub record IsAsBefore (old new : RibCore) : Type 0 where
-  pub hops : new.hops.items ≡ old.hops.items
-  pub highest : new.highest ≡ old.highest
-  pub count : new.events ≡ old.events
+pub record StandsFor (core : Core) (recorded : List Event) : Type 0 where
+  pub legal : Legal core.config recorded
+  pub keeps : Keeps core (events recorded)
+
+-- a command with its reply, the latest
+abbrev pub with : Command → Reply → List Event → List Event
+with command reply recorded = record { command = command; reply = reply } ∷ recorded
+
+-- whatever history it stood for, it then stands for that with the command and its reply
+abbrev pub Acts : Core → Command → Reply → Core → Type 0
+Acts old command reply new = (recorded : List Event) → StandsFor old recorded → StandsFor new (with command reply recorded)

@@ -1,0 +1,102 @@
+-- What is written for an input is answers to all its commands, in a row.
+use Rattle.std.proofs.Common.{◌≡◌, ℕ, ◌+◌, cond, List, [], ◌∷◌, ◌++◌, length, Option, Some, None, refl, sym, ap, ◌∙◌, append_assoc, pos}
+use Rattle.std.specs.Prelude.{is_some}
+use Rattle.std.specs.List.{flat_map}
+use Rattle.std.specs.Option.{option_map, option_or}
+use Rattle.std.proofs.lemmas.List.{length_push}
+use Rattle.schema_numbers.specs.Numbers.{Numbers}
+use Rattle.proto_schema.specs.declared.legal.MessageFault.{MessageFault}
+use Rattle.proto_schema.specs.declared.legal.MessageFault.TheVariants.{Wire, Utf8}
+use Rattle.proto_schema.specs.declared.legal.MessageFault.TheVariants as fault
+use Rattle.session_engine.specs.Orders.{commands_of, orders_of}
+use Rattle.session_engine.specs.declared.orders.Setting.{Setting}
+use Rattle.table_model.specs.declared.command.Command.{Command}
+use Rattle.table_model.specs.declared.command.Config.{Config}
+use Rattle.table_model.specs.Event.{Event}
+use Rattle.message_run.specs.Answering.{Course, Reply, course_with, course_from}
+use Rattle.apply_path.specs.History.{event, up_to_end, first_end, code_of, answer_bytes, Series, series}
+use Rattle.apply_path.specs.Fates.{config_of, fault_of, commands_unless, commands_at, series_at, history_from, history, begun, fate_by, apply_answering}
+use Rattle.apply_path.specs.Laws.{is_unread, readable, commands_from, events_of}
+use Rattle.apply_path.specs.Serves.{behind}
+use Rattle.apply_path.proofs.Steps.{series_goes, series_ends}
+use Rattle.apply_path.proofs.Messages.{history_more, series_none}
+
+-- commands, and others behind them
+abbrev pub then_by : Numbers → Config → List Command → List ℕ → Option ℕ → List Event → Series
+then_by n config ds written None past = behind written (series n config past ds)
+then_by n config ds written (Some code) past = record { written = written; ending = Some code; past = past }
+
+abbrev pub then : Numbers → Config → List Command → Series → Series
+then n config ds first = then_by n config ds first.written first.ending first.past
+
+behind_then : (n : Numbers) (config : Config) (ds : List Command) (bytes written : List ℕ) (ending : Option ℕ) (past : List Event) → then_by n config ds (bytes ++ written) ending past ≡ behind bytes (then_by n config ds written ending past)
+behind_then n config ds bytes written None past =
+    let next = series n config past ds in
+    ap (λ (w : List ℕ). record { written = w; ending = next.ending; past = next.past }) (append_assoc bytes written next.written)
+behind_then n config ds bytes written (Some code) past = refl
+
+join_step : (n : Numbers) (config : Config) (past : List Event) (c : Command) (cs ds : List Command) (o : Option ℕ) → code_of (event config past c) ≡ o
+    → series n config (event config past c ∷ past) (cs ++ ds) ≡ then n config ds (series n config (event config past c ∷ past) cs) → series n config past (c ∷ (cs ++ ds)) ≡ then n config ds (series n config past (c ∷ cs))
+join_step n config past c cs ds None e more =
+    let first = series n config (event config past c ∷ past) cs in
+    let bytes = answer_bytes n (event config past c) in
+    series_goes n config past c (cs ++ ds) e ∙ ap (behind bytes) more ∙ sym (behind_then n config ds bytes first.written first.ending first.past) ∙ sym (ap (then n config ds) (series_goes n config past c cs e))
+join_step n config past c cs ds (Some code) e more = series_ends n config past c (cs ++ ds) code e ∙ sym (ap (then n config ds) (series_ends n config past c cs code e))
+
+pub series_join : (n : Numbers) (config : Config) (past : List Event) (cs ds : List Command) → series n config past (cs ++ ds) ≡ then n config ds (series n config past cs)
+series_join n config past [] ds = sym (ap (then n config ds) (series_none n config past))
+series_join n config past (c ∷ cs) ds = join_step n config past c cs ds (code_of (event config past c)) refl (series_join n config (event config past c ∷ past) cs ds)
+
+-- ---- messages
+
+written_then : (n : Numbers) (config : Config) (ds : List Command) (done : List (List ℕ)) (m written : List ℕ) (ending : Option ℕ) (past : List Event) (others : Course) → others.written ≡ (series n config past ds).written
+    → (course_with done m written (option_map (λ code. Reply code) ending) others).written ≡ (then_by n config ds written ending past).written
+written_then n config ds done m written None past others e = ap (λ (w : List ℕ). written ++ w) e
+written_then n config ds done m written (Some code) past others e = refl
+
+message_step : (s : Setting) (past : List Event) (place : ℕ) (done : List (List ℕ)) (m : List ℕ) (ms : List (List ℕ)) (others : Course) (f : Option MessageFault) → fault_of s m ≡ f
+    → others.written ≡ (series s.numbering (config_of s) (series_at s past place m).past (commands_from s (place + 1) ms)).written
+    → (course_with done m (fate_by f (series_at s past place m)).written (fate_by f (series_at s past place m)).ending others).written
+    ≡ (series s.numbering (config_of s) past (commands_from s place (cond (is_unread f) [] (m ∷ ms)))).written
+unfolding commands_from
+message_step s past place done m ms others None e more =
+    let first = series_at s past place m in
+    written_then s.numbering (config_of s) (commands_from s (place + 1) ms) done m first.written first.ending first.past others more
+    ∙ sym (ap (λ (x : Series). x.written) (series_join s.numbering (config_of s) past (commands_at s place m) (commands_from s (place + 1) ms)))
+message_step s past place done m ms others (Some (Wire p found)) e more = sym (ap (λ (x : Series). x.written) (series_none s.numbering (config_of s) past))
+message_step s past place done m ms others (Some (Utf8 p)) e more = sym (ap (λ (x : Series). x.written) (series_none s.numbering (config_of s) past))
+message_step s past place done m ms others (Some fault.NoMemory) e more =
+    let ds = commands_from s (place + 1) ms in
+    let first : series_at s past place m ≡ record { written = []; ending = None; past = past }
+    = ap (λ (x : Option MessageFault). series s.numbering (config_of s) past (commands_unless x (commands_of 0 (pos place) (orders_of s m)))) e ∙ series_none s.numbering (config_of s) past in
+    more ∙ ap (λ (x : Series). (series s.numbering (config_of s) x.past ds).written) first
+    ∙ sym (ap (λ (x : Series). x.written) (series_join s.numbering (config_of s) past (commands_at s place m) ds ∙ ap (then s.numbering (config_of s) ds) first))
+
+abbrev pub others_in : Setting → List Event → ℕ → List (List ℕ) → List ℕ
+others_in s past place ms = (series s.numbering (config_of s) past (commands_from s place (readable s ms))).written
+
+written_from : (s : Setting) (done ms : List (List ℕ)) → (course_from (apply_answering s) done ms).written ≡ (series s.numbering (config_of s) (history s done) (commands_from s (length done + 1) (readable s ms))).written
+unfolding course_from readable commands_from apply_answering
+written_from s done [] = sym (ap (λ (x : Series). x.written) (series_none s.numbering (config_of s) (history s done)))
+written_from s done (m ∷ ms) =
+    let place = length done + 1 in
+    let further = written_from s (done ++ m ∷ []) ms in
+    let there : others_in s (history s (done ++ m ∷ [])) (length (done ++ m ∷ []) + 1) ms ≡ others_in s (series_at s (history s done) place m).past (place + 1) ms
+    = ap (λ (k : ℕ). others_in s (history s (done ++ m ∷ [])) (k + 1) ms) (length_push done m) ∙ ap (λ (p : List Event). others_in s p (place + 1) ms) (history_more s (begun s) 1 done m) in
+    message_step s (history s done) place done m (readable s ms) (course_from (apply_answering s) (done ++ m ∷ []) ms) (fault_of s m) refl (further ∙ there)
+
+up_to_none : (es : List Event) → first_end es ≡ None → up_to_end es ≡ es
+unfolding up_to_end first_end
+up_to_none [] e = refl
+up_to_none (x ∷ es) e = none_in x es (code_of x) refl e (up_to_none es)
+  where
+    none_in : (x : Event) (es : List Event) (o : Option ℕ) → code_of x ≡ o → option_or (code_of x) (first_end es) ≡ None → (first_end es ≡ None → up_to_end es ≡ es) → x ∷ cond (is_some (code_of x)) [] (up_to_end es) ≡ x ∷ es
+    none_in x es None c e more = let rest : first_end es ≡ None = sym (ap (λ (o : Option ℕ). option_or o (first_end es)) c) ∙ e in rw c (ap (λ (l : List Event). x ∷ l) (more rest))
+    none_in x es (Some code) c e more = let both : Some code ≡ None = sym (ap (λ (o : Option ℕ). option_or o (first_end es)) c) ∙ e in absurd cc
+
+pub answers_in_a_row : (s : Setting) (messages : List (List ℕ)) → (course_from (apply_answering s) [] messages).written ≡ flat_map (answer_bytes s.numbering) (up_to_end (events_of s messages))
+unfolding series history_from
+answers_in_a_row s messages = written_from s [] messages
+
+pub whole_answers : (s : Setting) (messages : List (List ℕ)) → first_end (events_of s messages) ≡ None → (course_from (apply_answering s) [] messages).written ≡ flat_map (answer_bytes s.numbering) (events_of s messages)
+whole_answers s messages e = answers_in_a_row s messages ∙ ap (flat_map (answer_bytes s.numbering)) (up_to_none (events_of s messages) e)

@@ -1,0 +1,8 @@
+use Rattle.apply_path.proofs.Rows.{answers_in_a_row, whole_answers}
+use Rattle.apply_path.proofs.laws.answers_are_the_servers.Goals as goal
+
+pub returns-clause-answers : goal.returns-clause-answers
+returns-clause-answers c = answers_in_a_row
+
+pub returns-clause-whole : goal.returns-clause-whole
+returns-clause-whole c = whole_answers

@@ -1,0 +1,28 @@
+-- All that an input asks for, in one row.
+use Rattle.std.specs.Prelude.{ℕ, ◌+◌, Bool, true, false, List, [], ◌∷◌, ◌++◌, Option, Some, if◌then◌else◌}
+use Rattle.proto_schema.specs.declared.legal.MessageFault.{MessageFault}
+use Rattle.proto_schema.specs.declared.legal.MessageFault.TheVariants.{Wire, Utf8}
+use Rattle.session_engine.specs.declared.orders.Setting.{Setting}
+use Rattle.table_model.specs.declared.command.Command.{Command}
+use Rattle.table_model.specs.Event.{Event}
+use Rattle.apply_path.specs.History.{answered}
+use Rattle.apply_path.specs.Fates.{config_of, fault_of, commands_at, begun}
+
+abbrev pub is_unread : Option MessageFault → Bool
+is_unread (Some (Wire place found)) = true
+is_unread (Some (Utf8 place)) = true
+is_unread _ = false
+
+-- the messages before the first that can't be read
+unfoldable pub readable : Setting → List (List ℕ) → List (List ℕ)
+readable s [] = []
+readable s (m ∷ ms) = if is_unread (fault_of s m) then [] else m ∷ readable s ms
+
+-- the commands of messages, the first of which is at this place
+unfoldable pub commands_from : Setting → ℕ → List (List ℕ) → List Command
+commands_from s place [] = []
+commands_from s place (m ∷ ms) = commands_at s place m ++ commands_from s (place + 1) ms
+
+-- the one-thread server's events for all commands of an input's messages that can be read, behind the session's beginning
+abbrev pub events_of : Setting → List (List ℕ) → List Event
+events_of s messages = answered (config_of s) (begun s) (commands_from s 1 (readable s messages))

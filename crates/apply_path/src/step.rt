@@ -1,0 +1,151 @@
+ghost use Rattle.std.specs.Prelude.{◌≡◌, ◌<◌, ◌^◌, ◌++◌, ◌∷◌, [], List, length, false, IfOk, OnOk, OnErr, IsTrue};
+ghost use Rattle.grpc_framing.specs.Framing.{item};
+ghost use Rattle.rib_core.specs.Built.{is_built};
+ghost use Rattle.table_model.specs.Event.{Event, is_no_memory};
+ghost use Rattle.table_model.specs.declared.command.Config.{Config};
+ghost use Rattle.apply_path.specs.History.{is_operate, id_of, moment_of, owed_bytes, code_by as code_said};
+ghost use Rattle.apply_path.specs.Serves.{Stood, Told, Replied, Does, is_collected};
+
+use message_run::Answered;
+use rib_core::RibCore;
+use schema_numbers::Numbering;
+use session_engine::{append_answer, end_of};
+use std::alloc::{AllocError, Global};
+use table_model::{Command, Reply};
+
+/// How many events a table of `apply` has before it takes no more: an input's bytes give far fewer.
+const MOST_EVENTS: u64 = 2_305_843_009_213_693_952;
+
+// Appends a message as it stands in the output.
+fn append_item(out: &mut Vec<u8>, message: &[u8]) -> Result<(), AllocError>
+    requires { length message.now < 2 ^ 32 }
+    ensures ok { OnOk result (out.new.items ≡ out.old.items ++ item message.now) }
+    ensures err { OnErr result (out.new.items ≡ out.old.items) }
+{
+    let count = message.len() as u32;
+    let before = out.len();
+    if out.push(0).is_err()
+        || out.extend_from_slice(&count.to_be_bytes()).is_err()
+        || out.extend_from_slice(message).is_err()
+    {
+        out.truncate(before);
+        return Err(AllocError);
+    }
+    Ok(())
+}
+
+// Appends the answer that is owed for a reply, spelled in `message` first.
+#[tactic(auto, unfolding(crate::specs::History::owed_bytes))]
+fn append_owed(
+    alloc: Global,
+    n: &Numbering,
+    id: u64,
+    now: i64,
+    reply: &Reply,
+    message: &mut Vec<u8>,
+    out: &mut Vec<u8>,
+) -> Result<(), AllocError>
+    requires { is_collected reply.now ≡ false }
+    ensures ok { OnOk result (out.new.items ≡ out.old.items ++ owed_bytes n.now id now reply.now) }
+    ensures err { OnErr result (out.new.items ≡ out.old.items) }
+{
+    message.clear();
+    if append_answer(alloc, n, id, now, reply, message)? {
+        append_item(out, message)
+    } else {
+        Ok(())
+    }
+}
+
+// The status number that a reply ends the stream with.
+fn code_by(operate: bool, reply: &Reply) -> Result<Option<u8>, AllocError>
+    ensures { IfOk result (λ code. code ≡ code_said operate reply.now) }
+{
+    match end_of(operate, reply)? {
+        None => Ok(None),
+        Some(status) => Ok(Some(status.code)),
+    }
+}
+
+fn is_lack(reply: &Reply) -> bool
+    ensures { result ≡ is_no_memory reply.now }
+{
+    match reply {
+        Reply::NoMemory => true,
+        _ => false,
+    }
+}
+
+/// Appends the answer to a reply, and tells whether it ends the stream.
+pub fn tell(
+    alloc: Global,
+    n: &Numbering,
+    operate: bool,
+    id: u64,
+    now: i64,
+    reply: &Reply,
+    message: &mut Vec<u8>,
+    out: &mut Vec<u8>,
+) -> Answered
+    requires { is_collected reply.now ≡ false }
+    ensures { Told n.now operate id now reply.now result out.old.items out.new.items }
+{
+    if is_lack(reply) {
+        return Answered::NoMemory;
+    }
+    match code_by(operate, reply) {
+        Err(_) => Answered::NoMemory,
+        Ok(code) => match append_owed(alloc, n, id, now, reply, message, out) {
+            Err(_) => Answered::NoMemory,
+            Ok(()) => match code {
+                None => Answered::GoesOn,
+                Some(code) => Answered::Ends(code),
+            },
+        },
+    }
+}
+
+// Lets a command go.
+fn discard(command: Command) {
+    let _ = command;
+}
+
+// The reply to a command, unless there is no room for another event.
+fn reply_to(core: &mut RibCore, command: Command) -> Reply
+    requires { IsTrue (is_built command) }
+    ensures room { Replied core.old command result core.new }
+{
+    if core.events() >= MOST_EVENTS {
+        discard(command);
+        return Reply::NoMemory;
+    }
+    core.act(command)
+}
+
+// Lets a reply go.
+fn discard_reply(reply: Reply) {
+    let _ = reply;
+}
+
+/// Does a command, and appends its answer. An operation's answer bears its id and its moment.
+pub fn do_command(
+    alloc: Global,
+    n: &Numbering,
+    core: &mut RibCore,
+    command: Command,
+    operate: bool,
+    id: u64,
+    now: i64,
+    message: &mut Vec<u8>,
+    out: &mut Vec<u8>,
+) -> Answered
+    requires built { IsTrue (is_built command) }
+    requires names { (operate ≡ is_operate command) × (id ≡ id_of command) × (now ≡ moment_of command) }
+    requires stood { (config : Config) × (past : List Event) × Stood config core.old past }
+    ensures { Does n.now core.old core.new (command ∷ []) result out.old.items out.new.items }
+{
+    let reply = reply_to(core, command);
+    let answered = tell(alloc, n, operate, id, now, &reply, message, out);
+    discard_reply(reply);
+    answered
+}

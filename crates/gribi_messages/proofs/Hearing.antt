@@ -1,0 +1,84 @@
+-- An operation's fields, heard one after another.
+use Rattle.std.proofs.Common.{◌≡◌, ℕ, List, [], ◌∷◌, ◌++◌, map, Option, Some, None, refl, ◌∙◌, sym, append_assoc}
+use Rattle.std.specs.List.{cons_option, last_or}
+use Rattle.std.specs.Option.{option_or, option_to_list}
+use Rattle.std.proofs.lemmas.List.{append-nil}
+use Rattle.schema_numbers.specs.Numbers.{Numbers}
+use Rattle.aft_entries.specs.declared.operation.RawOperation.{RawOperation}
+use Rattle.proto_wire.specs.Fields.{Spot}
+use Rattle.proto_schema.specs.Words.{number_in, numbers, piece_in, pieces, member_in, members, joined_onto, chosen_after}
+use Rattle.gribi_messages.specs.Request.{operation_of}
+use Rattle.gribi_messages.specs.Heard.{joined_with, chosen_with}
+
+-- what was heard, and what the fields that are left say behind it, is what all fields say
+pub record IsHeardSoFar (id_number instance_number op_number election_number : ℕ) (among : List ℕ) (id : Option ℕ) (instance : Option (List ℕ)) (op : Option ℕ) (entry : Option (ℕ × List ℕ)) (election : Option (List ℕ)) (rest all : List Spot) : Type 0 where
+  pub id_heard : last_or id (numbers id_number rest) ≡ last_or None (numbers id_number all)
+  pub instance_heard : last_or instance (pieces instance_number rest) ≡ last_or None (pieces instance_number all)
+  pub op_heard : last_or op (numbers op_number rest) ≡ last_or None (numbers op_number all)
+  pub entry_heard : chosen_after entry (members among rest) ≡ chosen_after None (members among all)
+  pub election_heard : joined_onto election (pieces election_number rest) ≡ joined_onto None (pieces election_number all)
+
+last_cons : {A : Type 0} (x before : Option A) (xs : List A) → last_or before (cons_option x xs) ≡ last_or (option_or x before) xs
+last_cons None before xs = refl
+last_cons (Some x) before xs = refl
+
+chosen_cons : (x before : Option (ℕ × List ℕ)) (xs : List (ℕ × List ℕ)) → chosen_after before (cons_option x xs) ≡ chosen_after (chosen_with before x) xs
+chosen_cons None before xs = refl
+chosen_cons (Some x) before xs = refl
+
+joined_cons : (x before : Option (List ℕ)) (xs : List (List ℕ)) → joined_onto before (cons_option x xs) ≡ joined_onto (joined_with before x) xs
+joined_cons None before xs = refl
+joined_cons (Some x) before xs = refl
+
+-- one more field
+pub hears : (id_number instance_number op_number election_number : ℕ) (among : List ℕ)
+    (id new_id : Option ℕ) (instance new_instance : Option (List ℕ)) (op new_op : Option ℕ) (entry new_entry : Option (ℕ × List ℕ)) (election new_election : Option (List ℕ))
+    (f : Spot) (before rest all : List Spot)
+    → IsHeardSoFar id_number instance_number op_number election_number among id instance op entry election before all
+    → before ≡ f ∷ rest
+    → new_id ≡ option_or (number_in id_number f.number f.value) id
+    → new_instance ≡ option_or (piece_in instance_number f.number f.value) instance
+    → new_op ≡ option_or (number_in op_number f.number f.value) op
+    → new_entry ≡ chosen_with entry (member_in among f.number f.value)
+    → new_election ≡ joined_with election (piece_in election_number f.number f.value)
+    → IsHeardSoFar id_number instance_number op_number election_number among new_id new_instance new_op new_entry new_election rest all
+hears id_number instance_number op_number election_number among id new_id instance new_instance op new_op entry new_entry election new_election f before rest all h first a b c d e =
+    let was = rw first at h in
+    record {
+      id_heard = rw a (sym (last_cons (number_in id_number f.number f.value) id (numbers id_number rest)) ∙ was.id_heard);
+      instance_heard = rw b (sym (last_cons (piece_in instance_number f.number f.value) instance (pieces instance_number rest)) ∙ was.instance_heard);
+      op_heard = rw c (sym (last_cons (number_in op_number f.number f.value) op (numbers op_number rest)) ∙ was.op_heard);
+      entry_heard = rw d (sym (chosen_cons (member_in among f.number f.value) entry (members among rest)) ∙ was.entry_heard);
+      election_heard = rw e (sym (joined_cons (piece_in election_number f.number f.value) election (pieces election_number rest)) ∙ was.election_heard);
+    }
+
+pub ruleset heard = (hears)
+
+-- the same of a request
+pub record IsRequestSoFar (n : Numbers) (operation_number params_number election_number : ℕ) (operations : List RawOperation) (params election : Option (List ℕ)) (rest all : List Spot) : Type 0 where
+  pub operations_heard : operations ++ map (operation_of n) (pieces operation_number rest) ≡ map (operation_of n) (pieces operation_number all)
+  pub params_heard : joined_onto params (pieces params_number rest) ≡ joined_onto None (pieces params_number all)
+  pub election_heard : joined_onto election (pieces election_number rest) ≡ joined_onto None (pieces election_number all)
+
+map_cons : {A B : Type 0} (f : A → B) (x : Option A) (before : List B) (xs : List A) → before ++ map f (cons_option x xs) ≡ (before ++ map f (option_to_list x)) ++ map f xs
+map_cons f None before xs = rw append-nil refl
+map_cons f (Some x) before xs = sym (append_assoc before (f x ∷ []) (map f xs))
+
+pub hears_request : (n : Numbers) (operation_number params_number election_number : ℕ)
+    (operations new_operations : List RawOperation) (params new_params : Option (List ℕ)) (election new_election : Option (List ℕ))
+    (f : Spot) (before rest all : List Spot)
+    → IsRequestSoFar n operation_number params_number election_number operations params election before all
+    → before ≡ f ∷ rest
+    → new_operations ≡ operations ++ map (operation_of n) (option_to_list (piece_in operation_number f.number f.value))
+    → new_params ≡ joined_with params (piece_in params_number f.number f.value)
+    → new_election ≡ joined_with election (piece_in election_number f.number f.value)
+    → IsRequestSoFar n operation_number params_number election_number new_operations new_params new_election rest all
+hears_request n operation_number params_number election_number operations new_operations params new_params election new_election f before rest all h first a b c =
+    let was = rw first at h in
+    record {
+      operations_heard = rw a (sym (map_cons (operation_of n) (piece_in operation_number f.number f.value) operations (pieces operation_number rest)) ∙ was.operations_heard);
+      params_heard = rw b (sym (joined_cons (piece_in params_number f.number f.value) params (pieces params_number rest)) ∙ was.params_heard);
+      election_heard = rw c (sym (joined_cons (piece_in election_number f.number f.value) election (pieces election_number rest)) ∙ was.election_heard);
+    }
+
+pub ruleset request_heard = (hears_request)

@@ -1,0 +1,8 @@
+use Rattle.std.proofs.Common.{rules, arith}
+use Rattle.std.proofs.lemmas.Grind.{common_steps}
+use Rattle.proto_schema.specs.Words.{repeated_at}
+use Rattle.gribi_messages.proofs.read_response.results_of.Goals as goal
+
+pub returns-in_default : goal.returns-in_default
+unfolding repeated_at
+returns-in_default c = rw (← c.field-wanted.ensures.value) (first_of (search rules, grind (arith, common_steps)))

@@ -1,0 +1,40 @@
+-- Messages that fit on the wire: numbers of 64 bits, election ids of 128, texts of UTF-8.
+use Rattle.std.specs.Prelude.{◌<◌, ◌^◌, length, All, IfSome, FitsSigned}
+use Rattle.std.specs.Str.{IsUtf8}
+use Rattle.std.specs.Int.{w64}
+use Rattle.gribi_messages.specs.declared.asks.InstanceAsk.{InstanceAsk}
+use Rattle.gribi_messages.specs.declared.asks.InstanceAsk.TheVariants as ask
+use Rattle.gribi_messages.specs.declared.asks.FlushAsk.{FlushAsk}
+use Rattle.gribi_messages.specs.declared.asks.FlushAsk.TheVariants as election
+use Rattle.gribi_messages.specs.declared.asks.GetRequest.{GetRequest}
+use Rattle.gribi_messages.specs.declared.asks.FlushRequest.{FlushRequest}
+use Rattle.gribi_messages.specs.declared.response.AftResult.{AftResult}
+use Rattle.gribi_messages.specs.declared.response.ModifyResponse.{ModifyResponse}
+
+pub record IsResult (r : AftResult) : Type 0 where
+  pub id : r.id < 2 ^ 64
+  pub status : r.status < 2 ^ 64
+  pub timestamp : FitsSigned w64 r.timestamp
+  pub reason : r.reason < 2 ^ 64
+
+pub record IsResponse (r : ModifyResponse) : Type 0 where
+  pub results : All IsResult r.results
+  pub params : IfSome r.params (λ status. status < 2 ^ 64)
+  pub election : IfSome r.election (λ id. id < 2 ^ 128)
+
+-- a name is a text, and not longer than any text can be
+abbrev pub IsName : InstanceAsk → Type 0
+IsName ask.All = Unit {0}
+IsName (ask.Named text) = IsUtf8 text × (length text < 2 ^ 64)
+
+pub record IsGet (r : GetRequest) : Type 0 where
+  pub instance : IfSome r.instance IsName
+  pub aft : r.aft < 2 ^ 64
+
+abbrev pub IsElection : FlushAsk → Type 0
+IsElection (election.Id id) = id < 2 ^ 128
+IsElection election.Override = Unit {0}
+
+pub record IsFlush (r : FlushRequest) : Type 0 where
+  pub election : IfSome r.election IsElection
+  pub instance : IfSome r.instance IsName

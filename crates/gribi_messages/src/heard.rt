@@ -1,0 +1,236 @@
+ghost use Rattle.std.specs.Prelude.{◌≡◌, ◌++◌, ◌||◌, [], IfOk, OnOk, None, map, unwrap_or, if◌then◌else◌};
+ghost use Rattle.std.specs.Option.{option_map, option_copied, option_to_list};
+ghost use Rattle.proto_wire.specs.Wire.{value_of};
+ghost use Rattle.proto_schema.specs.Words.{piece_in, member_in, number_at, text_at, message_at, chosen_at};
+ghost use Rattle.proto_schema.specs.Chosen.{chosen_seen};
+ghost use Rattle.schema_numbers.specs.Numbers.{field_of};
+ghost use Rattle.schema_numbers.specs.declared.names.FieldName.TheVariants as field_name;
+ghost use Rattle.gribi_messages.specs.Request.{entry_members, operation_of as operation_said, operations_of};
+ghost use Rattle.gribi_messages.specs.Heard.{joined_with, chosen_with, only_operation as only_operation_said};
+
+use crate::decode::operation_of;
+use crate::lists::RawOperations;
+use proto_schema::{Chosen, Joined, choose, join, member_of, number_of, piece_of};
+use proto_wire::{Field, FieldReader, Next};
+use schema_numbers::{FieldName, Numbering};
+use std::alloc::{AllocError, Global};
+
+// The occurrences so far, with that of this field where it is one.
+fn join_next<'a>(
+    alloc: Global,
+    wanted: u32,
+    before: Option<Joined<'a>>,
+    field: &Field<'a>,
+) -> Result<Option<Joined<'a>>, AllocError>
+    ensures { IfOk result (λ now. now ≡ joined_with before.entry (piece_in wanted field.now.number (value_of field.now.value))) }
+{
+    match piece_of(wanted, field) {
+        Some(piece) => Ok(Some(join(alloc, before, piece)?)),
+        None => Ok(before),
+    }
+}
+
+// The member so far, or this field's where it is one.
+fn choose_next<'a>(
+    alloc: Global,
+    among: &[u32],
+    before: Option<Chosen<'a>>,
+    field: &Field<'a>,
+) -> Result<Option<Chosen<'a>>, AllocError>
+    ensures { IfOk result (λ now. option_map chosen_seen now ≡ chosen_with (option_map chosen_seen before.entry) (member_in among.now field.now.number (value_of field.now.value))) }
+{
+    match member_of(among, field) {
+        Some(piece) => Ok(Some(choose(alloc, before, field.number, piece)?)),
+        None => Ok(before),
+    }
+}
+
+/// The last numbers of two fields, heard in one pass.
+#[tactic(auto, using(crate::proofs::TwoNumbers::both))]
+pub fn numbers_at(one: u32, other: u32, bytes: &[u8]) -> (Option<u64>, Option<u64>)
+    ensures one { unwrap_or result.0 0 ≡ number_at one bytes.now }
+    ensures other { unwrap_or result.1 0 ≡ number_at other bytes.now }
+{
+    let mut first = None;
+    let mut second = None;
+    let mut reader = FieldReader::new(bytes);
+    loop {
+        match reader.next() {
+            Next::Field(field) => {
+                first = number_of(one, &field).or(first);
+                second = number_of(other, &field).or(second);
+            }
+            _ => return (first, second),
+        }
+    }
+}
+
+/// What the fields of an operation say, heard in one pass.
+#[derive(Drop)]
+pub struct Heard<'a> {
+    pub id: Option<u64>,
+    pub instance: Option<&'a [u8]>,
+    pub op: Option<u64>,
+    pub entry: Option<Chosen<'a>>,
+    pub election: Option<Joined<'a>>,
+}
+
+// The numbers of the oneof's members.
+fn entry_numbers(n: &Numbering) -> [u32; 7]
+    ensures { result ≡ entry_members n.now }
+{
+    [
+        n.field(FieldName::AftOperationIpv4),
+        n.field(FieldName::AftOperationIpv6),
+        n.field(FieldName::AftOperationMpls),
+        n.field(FieldName::AftOperationNextHopGroup),
+        n.field(FieldName::AftOperationNextHop),
+        n.field(FieldName::AftOperationMacAddress),
+        n.field(FieldName::AftOperationPolicyForwardingEntry),
+    ]
+}
+
+/// Hears the fields of an operation.
+#[tactic(auto, using(crate::proofs::Hearing::heard))]
+pub fn hear<'a>(alloc: Global, n: &Numbering, bytes: &'a [u8]) -> Result<Heard<'a>, AllocError>
+    ensures id { IfOk result (λ h. unwrap_or h.id 0 ≡ number_at (field_of n.now field_name.AftOperationId) bytes.now) }
+    ensures instance { IfOk result (λ h. unwrap_or (option_copied h.instance) [] ≡ text_at (field_of n.now field_name.AftOperationNetworkInstance) bytes.now) }
+    ensures op { IfOk result (λ h. unwrap_or h.op 0 ≡ number_at (field_of n.now field_name.AftOperationOp) bytes.now) }
+    ensures entry { IfOk result (λ h. option_map chosen_seen h.entry ≡ chosen_at (entry_members n.now) bytes.now) }
+    ensures election { IfOk result (λ h. h.election ≡ message_at (field_of n.now field_name.AftOperationElectionId) bytes.now) }
+{
+    let id_number = n.field(FieldName::AftOperationId);
+    let instance_number = n.field(FieldName::AftOperationNetworkInstance);
+    let op_number = n.field(FieldName::AftOperationOp);
+    let election_number = n.field(FieldName::AftOperationElectionId);
+    let members = entry_numbers(n);
+    let mut id = None;
+    let mut instance = None;
+    let mut op = None;
+    let mut entry = None;
+    let mut election = None;
+    let mut reader = FieldReader::new(bytes);
+    loop {
+        match reader.next() {
+            Next::Field(field) => {
+                id = number_of(id_number, &field).or(id);
+                instance = piece_of(instance_number, &field).or(instance);
+                op = number_of(op_number, &field).or(op);
+                entry = choose_next(alloc, &members, entry, &field)?;
+                election = join_next(alloc, election_number, election, &field)?;
+            }
+            _ => {
+                return Ok(Heard {
+                    id,
+                    instance,
+                    op,
+                    entry,
+                    election,
+                });
+            }
+        }
+    }
+}
+
+/// What the fields of a request say, heard in one pass.
+#[derive(Drop)]
+pub struct HeardRequest<'a> {
+    pub operations: RawOperations,
+    pub params: Option<Joined<'a>>,
+    pub election: Option<Joined<'a>>,
+}
+
+// The operations so far, and that of this field where it is one.
+fn push_next(
+    alloc: Global,
+    n: &Numbering,
+    wanted: u32,
+    all: &mut RawOperations,
+    field: &Field<'_>,
+) -> Result<(), AllocError>
+    ensures { OnOk result (all.new ≡ all.old ++ map (operation_said n.now) (option_to_list (piece_in wanted field.now.number (value_of field.now.value)))) }
+{
+    match piece_of(wanted, field) {
+        Some(piece) => all.push(operation_of(alloc, n, piece)?),
+        None => Ok(()),
+    }
+}
+
+/// Hears the fields of a request.
+#[tactic(auto, using(crate::proofs::Hearing::request_heard))]
+pub fn hear_request<'a>(
+    alloc: Global,
+    n: &Numbering,
+    bytes: &'a [u8],
+) -> Result<HeardRequest<'a>, AllocError>
+    ensures operations { IfOk result (λ h. h.operations ≡ operations_of n.now bytes.now) }
+    ensures params { IfOk result (λ h. h.params ≡ message_at (field_of n.now field_name.ModifyRequestParams) bytes.now) }
+    ensures election { IfOk result (λ h. h.election ≡ message_at (field_of n.now field_name.ModifyRequestElectionId) bytes.now) }
+{
+    let operation_number = n.field(FieldName::ModifyRequestOperation);
+    let params_number = n.field(FieldName::ModifyRequestParams);
+    let election_number = n.field(FieldName::ModifyRequestElectionId);
+    let mut operations = RawOperations::new(alloc);
+    let mut params = None;
+    let mut election = None;
+    let mut reader = FieldReader::new(bytes);
+    loop {
+        match reader.next() {
+            Next::Field(field) => {
+                push_next(alloc, n, operation_number, &mut operations, &field)?;
+                params = join_next(alloc, params_number, params, &field)?;
+                election = join_next(alloc, election_number, election, &field)?;
+            }
+            _ => {
+                return Ok(HeardRequest {
+                    operations,
+                    params,
+                    election,
+                });
+            }
+        }
+    }
+}
+
+// The last operation, unless there is something else.
+fn last_unless<'a>(
+    several: bool,
+    has_params: bool,
+    has_election: bool,
+    last: Option<&'a [u8]>,
+) -> Option<&'a [u8]>
+    ensures { option_copied result ≡ (if several || has_params || has_election then None else option_copied last.entry) }
+{
+    if several || has_params || has_election {
+        None
+    } else {
+        last
+    }
+}
+
+/// The bytes of a request's operation, where it has one operation, and neither parameters nor an election id.
+#[tactic(auto, using(crate::proofs::Single::single))]
+pub fn only_operation<'a>(n: &Numbering, bytes: &'a [u8]) -> Option<&'a [u8]>
+    ensures { option_copied result ≡ only_operation_said n.now bytes.now }
+{
+    let operation_number = n.field(FieldName::ModifyRequestOperation);
+    let params_number = n.field(FieldName::ModifyRequestParams);
+    let election_number = n.field(FieldName::ModifyRequestElectionId);
+    let mut last = None;
+    let mut several = false;
+    let mut has_params = false;
+    let mut has_election = false;
+    let mut reader = FieldReader::new(bytes);
+    loop {
+        match reader.next() {
+            Next::Field(field) => {
+                let piece = piece_of(operation_number, &field);
+                several = several || (last.is_some() && piece.is_some());
+                last = piece.or(last);
+                has_params = has_params || piece_of(params_number, &field).is_some();
+                has_election = has_election || piece_of(election_number, &field).is_some();
+            }
+            _ => return last_unless(several, has_params, has_election, last),
+        }
+    }
+}

@@ -1,0 +1,41 @@
+ghost use Rattle.std.specs.Prelude.{◌≡◌, ◌<◌, ◌^◌, ℕ, None, FitsSigned};
+ghost use Rattle.std.specs.Int.{w64};
+ghost use Rattle.schema_numbers.specs.Numbers.{Numbers};
+ghost use Rattle.schema_numbers.specs.Valid.{IsValid};
+ghost use Rattle.proto_schema.specs.declared.schema.MessageKind.TheVariants as message;
+ghost use Rattle.proto_schema.specs.Legal.{first_fault};
+ghost use Rattle.gribi_messages.specs.declared.asks.GetRequest.{GetRequest};
+ghost use Rattle.gribi_messages.specs.declared.asks.FlushRequest.{FlushRequest};
+ghost use Rattle.gribi_messages.specs.declared.asks.FlushResponse.{FlushResponse};
+ghost use Rattle.gribi_messages.specs.declared.response.ModifyResponse.{ModifyResponse};
+ghost use Rattle.gribi_messages.specs.Response.{response_bytes, modify_response};
+ghost use Rattle.gribi_messages.specs.Fitting.{IsResponse, IsGet, IsFlush};
+ghost use Rattle.gribi_messages.specs.Asks.{get_request, get_bytes, flush_request, flush_bytes, flush_response, flush_response_bytes};
+
+/// The answer of a Flush call that was written is read again, under every valid numbering.
+pub fn flush_response_is_read_again()
+    ensures { (n : Numbers) (r : FlushResponse) → IsValid n → FitsSigned w64 r.timestamp → r.result < 2 ^ 64 →
+        (first_fault n message.FlushResponse (flush_response_bytes n r) ≡ None)
+        × (flush_response n (flush_response_bytes n r) ≡ r) }
+{}
+
+/// The answer of a Modify call that was written is read again, under every valid numbering.
+pub fn modify_response_is_read_again()
+    ensures { (n : Numbers) (r : ModifyResponse) → IsValid n → IsResponse r →
+        (first_fault n message.ModifyResponse (response_bytes n r) ≡ None)
+        × (modify_response n (response_bytes n r) ≡ r) }
+{}
+
+/// The request of a Get call that was written is read again, under every valid numbering.
+pub fn get_request_is_read_again()
+    ensures { (n : Numbers) (r : GetRequest) → IsValid n → IsGet r →
+        (first_fault n message.GetRequest (get_bytes n r) ≡ None)
+        × (get_request n (get_bytes n r) ≡ r) }
+{}
+
+/// The request of a Flush call that was written is read again, under every valid numbering.
+pub fn flush_request_is_read_again()
+    ensures { (n : Numbers) (r : FlushRequest) → IsValid n → IsFlush r →
+        (first_fault n message.FlushRequest (flush_bytes n r) ≡ None)
+        × (flush_request n (flush_bytes n r) ≡ r) }
+{}

@@ -1,0 +1,32 @@
+ghost use Rattle.std.specs.Prelude.{◌≡◌, ◌++◌, OnOk, OnErr};
+ghost use Rattle.proto_wire.specs.Written.{bytes_field};
+ghost use Rattle.gribi_messages.specs.Response.{uint128_bytes};
+
+use aft_messages::{number_size, write_head, write_two};
+use schema_numbers::{FieldName, Numbering};
+use std::alloc::AllocError;
+
+/// Appends an embedded message of a number of 128 bits.
+#[tactic(auto, unfolding(crate::specs::Response::uint128_bytes))]
+pub fn write_uint128(
+    n: &Numbering,
+    number: u32,
+    id: u128,
+    out: &mut Vec<u8>,
+) -> Result<(), AllocError>
+    ensures ok { OnOk result (out.new.items ≡ out.old.items ++ bytes_field number (uint128_bytes n.now id)) }
+    ensures err { OnErr result (out.new.items ≡ out.old.items) }
+{
+    let before = out.len();
+    let high_number = n.field(FieldName::Uint128High);
+    let low_number = n.field(FieldName::Uint128Low);
+    let high = (id / 0x1_0000_0000_0000_0000) as u64;
+    let low = (id % 0x1_0000_0000_0000_0000) as u64;
+    let size = number_size(high_number, high) + number_size(low_number, low);
+    write_head(number, size, out)?;
+    if write_two(high_number, high, low_number, low, out).is_err() {
+        out.truncate(before);
+        return Err(AllocError);
+    }
+    Ok(())
+}

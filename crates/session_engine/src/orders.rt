@@ -1,0 +1,153 @@
+ghost use Rattle.std.specs.Prelude.{◌≡◌, map, IfOk};
+ghost use Rattle.std.specs.Option.{option_map};
+ghost use Rattle.proto_schema.specs.declared.schema.MessageKind.TheVariants as message_kind;
+ghost use Rattle.proto_schema.specs.Legal.{first_fault};
+ghost use Rattle.aft_messages.specs.Decodes.{Decodes};
+ghost use Rattle.session_engine.specs.Orders as said;
+
+use aft_entries::{Instances, RawOperation, check_entry};
+use gribi_messages::{MessageFault, RawOperations, RawParams, decode_modify};
+use schema_numbers::{Numbering, ValueName};
+use std::alloc::{AllocError, Global};
+use std::marker::Model;
+use table_model::{AckType, AskedParams, Operation, Persistence, Redundancy};
+
+/// What requests are read with: the numbers of the messages' fields, and the names of the network instances.
+#[derive(Drop)]
+pub struct Setting {
+    pub numbering: Numbering,
+    pub instances: Instances,
+}
+
+/// Operations, in their order. Contracts see the list.
+#[derive(Drop)]
+pub struct Operations {
+    items: Vec<Operation>,
+}
+
+impl Model for Operations {
+    ghost use Rattle.std.specs.Prelude.{List};
+    ghost use Rattle.table_model.specs.declared.command.Operation.{Operation};
+
+    ghost Value = { List Operation };
+
+    ghost view = { λ o. o.items.items };
+}
+
+impl Operations {
+    /// The operations, as a vector.
+    pub fn into_vec(self) -> Vec<Operation>
+        ensures { result.items ≡ self }
+    {
+        let Operations { items } = self;
+        items
+    }
+}
+
+/// What a request orders: session parameters, an election id, and operations, in this order.
+#[derive(Drop)]
+pub struct Orders {
+    pub params: Option<AskedParams>,
+    pub election: Option<u128>,
+    pub operations: Operations,
+}
+
+fn redundancy_of(n: &Numbering, number: u64) -> Option<Redundancy>
+    ensures { result ≡ said.redundancy_of n.now number }
+{
+    if number == n.value(ValueName::RedundancyAllPrimary) {
+        Some(Redundancy::AllPrimary)
+    } else if number == n.value(ValueName::RedundancySinglePrimary) {
+        Some(Redundancy::SinglePrimary)
+    } else {
+        None
+    }
+}
+
+fn persistence_of(n: &Numbering, number: u64) -> Option<Persistence>
+    ensures { result ≡ said.persistence_of n.now number }
+{
+    if number == n.value(ValueName::PersistenceDelete) {
+        Some(Persistence::Delete)
+    } else if number == n.value(ValueName::PersistencePreserve) {
+        Some(Persistence::Preserve)
+    } else {
+        None
+    }
+}
+
+fn ack_of(n: &Numbering, number: u64) -> Option<AckType>
+    ensures { result ≡ said.ack_of n.now number }
+{
+    if number == n.value(ValueName::AckTypeRibAck) {
+        Some(AckType::Rib)
+    } else if number == n.value(ValueName::AckTypeRibAndFibAck) {
+        Some(AckType::RibAndFib)
+    } else {
+        None
+    }
+}
+
+fn asked_of(n: &Numbering, raw: Option<RawParams>) -> Option<AskedParams>
+    ensures { result ≡ option_map (said.asked_of n.now) raw }
+{
+    match raw {
+        None => None,
+        Some(raw) => Some(AskedParams {
+            redundancy: redundancy_of(n, raw.redundancy),
+            persistence: persistence_of(n, raw.persistence),
+            ack: ack_of(n, raw.ack),
+        }),
+    }
+}
+
+fn operation_of(
+    alloc: Global,
+    instances: &Instances,
+    raw: RawOperation,
+) -> Result<Operation, AllocError>
+    ensures { IfOk result (λ operation. operation ≡ said.operation_of instances.now raw) }
+{
+    let id = raw.id;
+    let election = raw.election;
+    let ask = check_entry(alloc, instances, raw)?;
+    Ok(Operation { id, election, ask })
+}
+
+fn operations_of(
+    alloc: Global,
+    instances: &Instances,
+    raw: RawOperations,
+) -> Result<Operations, AllocError>
+    ensures { IfOk result (λ all. all ≡ map (said.operation_of instances.now) raw) }
+{
+    let raw = raw.into_vec();
+    let mut items = Vec::with_capacity(alloc, raw.len())?;
+    for operation in raw {
+        items.push(operation_of(alloc, instances, operation)?)?;
+    }
+    Ok(Operations { items })
+}
+
+/// What a ModifyRequest orders, or the first fault of its bytes with its place. Each operation is checked as far as it stands by
+/// itself, and one that can't be done bears the reason.
+#[tactic(auto, unfolding(crate::specs::Orders::orders_of))]
+pub fn read_orders(alloc: Global, setting: &Setting, message: &[u8]) -> Result<Orders, MessageFault>
+    ensures { Decodes result (first_fault setting.now.numbering message_kind.ModifyRequest message.now) (said.orders_of setting.now message.now) }
+{
+    match decode_modify(alloc, &setting.numbering, message) {
+        Err(fault) => Err(fault),
+        Ok(request) => {
+            let params = asked_of(&setting.numbering, request.params);
+            let election = request.election;
+            match operations_of(alloc, &setting.instances, request.operations) {
+                Err(_) => Err(MessageFault::NoMemory),
+                Ok(operations) => Ok(Orders {
+                    params,
+                    election,
+                    operations,
+                }),
+            }
+        }
+    }
+}
