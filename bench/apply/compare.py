@@ -45,4 +45,5 @@ def main() -> None:
     print(f"median ratio {sorted(ratios)[len(ratios) // 2]:.2f}")
 
 
-main()
+if __name__ == "__main__":
+    main()

@@ -1,8 +1,11 @@
 #!/usr/bin/env python3
 """Writes a plain input of `gribi apply` to standard output: parameters, an election, then ADDs of next hops.
 
-usage: make_input.py OPERATIONS NEXT_HOPS
+usage: make_input.py OPERATIONS NEXT_HOPS [random]
+
+With `random` the next hops come in an order drawn from a fixed seed.
 """
+import random
 import sys
 
 
@@ -33,8 +36,10 @@ def main() -> None:
     out.write(item(piece(2, number(1, 1) + number(2, 1))))
     election = number(2, 1)
     out.write(item(piece(3, election)))
+    draw = random.Random(1) if "random" in sys.argv else None
     for k in range(operations):
-        hop = number(1, k % hops + 1) + piece(2, b"")
+        index = draw.randrange(hops) if draw else k % hops
+        hop = number(1, index + 1) + piece(2, b"")
         operation = number(1, k + 1) + piece(2, b"DEFAULT") + number(3, 1) + piece(8, hop) + piece(11, election)
         out.write(item(piece(1, operation)))
 

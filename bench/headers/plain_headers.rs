@@ -1,6 +1,7 @@
 // A plain decoder of header blocks: names and values as byte vectors, and Huffman strings by nested
 // tables of 256 entries. Reads blocks, each behind its length in two bytes, ROUNDS times over with one
-// decoder, and prints how many fields and bytes they gave.
+// decoder, and prints how many fields and bytes they gave. With a second word `strings` it reads Huffman
+// strings instead, and prints how many there were and their bytes.
 use std::collections::VecDeque;
 use std::io::Read;
 
@@ -193,10 +194,29 @@ impl Decoder {
     }
 }
 
+fn strings(input: &[u8], rounds: usize) {
+    let tree = tree();
+    let (mut count, mut total) = (0u64, 0u64);
+    for _ in 0..rounds {
+        let mut at = 0;
+        while at < input.len() {
+            let len = usize::from(input[at]) * 256 + usize::from(input[at + 1]);
+            let text = decode(&tree, &input[at + 2..at + 2 + len]).unwrap();
+            at += 2 + len;
+            count += 1;
+            total += text.len() as u64;
+        }
+    }
+    println!("strings {count} bytes {total}");
+}
+
 fn main() {
     let rounds: usize = std::env::args().nth(1).unwrap().parse().unwrap();
     let mut input = Vec::new();
     std::io::stdin().read_to_end(&mut input).unwrap();
+    if std::env::args().nth(2).as_deref() == Some("strings") {
+        return strings(&input, rounds);
+    }
     let mut decoder = Decoder { tree: tree(), entries: VecDeque::new(), size: 0, max: 4096 };
     let (mut count, mut total) = (0u64, 0u64);
     for _ in 0..rounds {
