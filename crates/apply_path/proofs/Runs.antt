@@ -2,7 +2,7 @@
 use Rattle.std.proofs.Common.{◌≡◌, ℕ, List, [], ◌++◌, Option, Some, None, refl, sym, ap, inl, inr}
 use Rattle.message_run.specs.Answering.{Answering}
 use Rattle.message_run.specs.Runs.{Told, Runs, RunsOver, IsClosing}
-use Rattle.message_run.specs.Outcomes.{output_of}
+use Rattle.message_run.specs.Outcomes.{outcome_of, output_of}
 use Rattle.message_run.specs.Written.{WrotePart}
 use Rattle.std.specs.Option.{option_map}
 use Rattle.std.proofs.lemmas.List.{append-nil}
@@ -17,6 +17,7 @@ forgets f has_done has_left status told r = record {
   still = r.still;
   failed = λ e. tt;
   over = r.over;
+  answers = r.answers;
   part = r.part;
 }
 
@@ -32,6 +33,7 @@ forgets_over f has_done has_left status input told r = record {
   refused = r.refused;
   server = λ closing. tt;
   failed = λ e. tt;
+  answers = r.answers;
   part = r.part;
 }
 
@@ -50,8 +52,8 @@ not_closing (inl e) = absurd cc
 not_closing (inr (inl e)) = absurd cc
 not_closing (inr (inr e)) = absurd cc
 
-nothing_written : (f : Answering) (before : Option (List ℕ)) → WrotePart before (output_of f []) before
-nothing_written f before = record { written = []; others = output_of f []; parts = refl; wrote = nothing_taken before }
+nothing_written : (before : Option (List ℕ)) (bytes : List ℕ) → WrotePart before bytes before
+nothing_written before bytes = record { written = []; others = bytes; parts = refl; wrote = nothing_taken before }
 
 pub lacks_memory : (f : Answering) (taken left before : Option (List ℕ)) → Runs f anything anything 6 (record { taken_before = taken; taken_after = taken; left_before = left; left_after = left; before = before; after = before })
 lacks_memory f taken left before = record {
@@ -62,7 +64,8 @@ lacks_memory f taken left before = record {
   still = λ closing. absurd (not_closing closing);
   failed = λ e. tt;
   over = λ e. absurd cc;
-  part = nothing_written f before;
+  answers = λ which. nothing_written before (outcome_of f []).written;
+  part = nothing_written before (output_of f []);
 }
 
 pub lacks_memory_over : (f : Answering) (input : List ℕ) (taken left before : Option (List ℕ)) → left ≡ Some input → RunsOver f anything anything 6 input (record { taken_before = taken; taken_after = taken; left_before = left; left_after = left; before = before; after = before })
@@ -77,5 +80,6 @@ lacks_memory_over f input taken left before told = record {
   refused = λ e. absurd cc;
   server = λ closing. tt;
   failed = λ e. tt;
-  part = nothing_written f before;
+  answers = λ which. nothing_written before (outcome_of f []).written;
+  part = nothing_written before (output_of f []);
 }

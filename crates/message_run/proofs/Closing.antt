@@ -9,7 +9,7 @@ use Rattle.message_run.specs.Reading.{Stopped, close_of}
 use Rattle.message_run.specs.Runs.{Told, Runs, RunsOver, IsClosing}
 use Rattle.message_run.specs.declared.stop.Stop.{Stop}
 use Rattle.message_run.specs.declared.stop.Stop.TheVariants as why
-use Rattle.message_run.proofs.Sinks.{wrote_nothing, wrote_more}
+use Rattle.message_run.proofs.Sinks.{wrote_nothing, wrote_more, part_more}
 use Rattle.message_run.proofs.Runs.{then_told}
 
 -- the server may leave
@@ -26,11 +26,16 @@ part_then before now after bytes more w p = record {
   wrote = wrote_more before now after bytes p.written w p.wrote;
 }
 
+-- of the last item nothing was written
+answers_alone : (before now after : Option (List ℕ)) (bytes : List ℕ) (status : ℕ) → WrotePart before bytes now → (status ≡ 4 → ⊥) → (status ≡ 6 → after ≡ now) → (status ≡ 4) ⊎ (status ≡ 6) → WrotePart before bytes after
+answers_alone before now after bytes status w other lacks (inl four) = absurd (other four)
+answers_alone before now after bytes status w other lacks (inr six) = subst (λ (x : Option (List ℕ)). WrotePart before bytes x) (sym (lacks six)) w
+
 -- it closes, and the last item was written, or a part of it
 pub runs_closed : (f : Answering) (stands later left : List (List ℕ) → Type 0) (stop : Stop) (told : Told) (close : Close) (status : ℕ) (after : Option (List ℕ)) → Stopped f stands stop told → close_of stop ≡ Some close
     → (IsClosing status → (status_at close ≡ status) × Wrote told.after (closing close) after) → WrotePart told.after (closing close) after → ((done : List (List ℕ)) → stands done → length done < 2 ^ 61 → left done)
-    → (status ≡ 0 → stop ≡ why.Finished) → (status ≡ 4 → ⊥) → Runs f later left status (then_told told told.taken_after told.left_after after)
-runs_closed f stands later left stop told close status after h e whole part leaves finished other =
+    → (status ≡ 0 → stop ≡ why.Finished) → (status ≡ 4 → ⊥) → (status ≡ 6 → after ≡ told.after) → Runs f later left status (then_told told told.taken_after told.left_after after)
+runs_closed f stands later left stop told close status after h e whole part leaves finished other lacks =
     let c = h.closes close e in
     let out : output_of f h.taken ≡ (outcome_of f h.taken).written ++ closing close = ap (λ (x : Close). (outcome_of f h.taken).written ++ closing x) c.0 in
     record {
@@ -43,6 +48,7 @@ runs_closed f stands later left stop told close status after h e whole part leav
       still = λ t rest l. h.still close e rest l;
       over = λ z. h.over (finished z);
       failed = λ z. absurd (other z);
+      answers = answers_alone told.before told.after after (outcome_of f h.taken).written status h.answers other lacks;
       part = rw out (part_then told.before told.after after (outcome_of f h.taken).written (closing close) c.1 part);
     }
 
@@ -75,6 +81,7 @@ runs_over f stands left status input told h e =
       refused = λ z. let w = whole (inr (inr z)) in (w.0 ∙ z, w.1);
       server = λ t. (whole t).2;
       failed = h.failed;
+      answers = h.answers;
       part = h.part;
     }
 
@@ -101,20 +108,21 @@ pub not_four : (status result : ℕ) → (status ≡ 3) ⊎ (status ≡ 7) → (
 not_four status result (inl three) h z = absurd (omega (arith, three, h, z))
 not_four status result (inr seven) h z = absurd (omega (arith, seven, h, z))
 
-four_goes_on : IsClosing 4 → ⊥
-four_goes_on (inl z) = omega (arith, z)
-four_goes_on (inr (inl z)) = omega (arith, z)
-four_goes_on (inr (inr z)) = omega (arith, z)
-
--- reading failed
-pub runs_failed : (f : Answering) (stands left : List (List ℕ) → Type 0) (told : Told) → Stopped f stands why.ReadFault told → Runs f stands left 4 told
-runs_failed f stands left told h = record {
+-- reading or writing failed, or there was no memory
+pub runs_failed : (f : Answering) (stands left : List (List ℕ) → Type 0) (stop : Stop) (told : Told) (status : ℕ) → Stopped f stands stop told → (IsClosing status → ⊥) → (status ≡ 4 → stop ≡ why.ReadFault) → Runs f stands left status told
+runs_failed f stands left stop told status h goes_on unread = record {
   taken = h.taken;
   taken_is = h.taken_is;
   left_is = h.left_is;
-  whole = λ t. absurd (four_goes_on t);
-  still = λ t. absurd (four_goes_on t);
-  failed = λ z. h.failed refl;
-  over = λ z. absurd (four_goes_on (inl z));
-  part = h.part;
+  whole = λ t. absurd (goes_on t);
+  still = λ t. absurd (goes_on t);
+  failed = λ z. h.failed (unread z);
+  over = λ z. absurd (goes_on (inl z));
+  answers = λ which. h.answers;
+  part = part_more told.before told.after (outcome_of f h.taken).written (closing (outcome_of f h.taken).close) h.answers;
 }
+
+pub goes_on : (status : ℕ) → (status ≡ 4) ⊎ (status ≡ 5) ⊎ (status ≡ 6) → IsClosing status → ⊥
+goes_on status which (inl z) = omega (arith, which, z)
+goes_on status which (inr (inl z)) = omega (arith, which, z)
+goes_on status which (inr (inr z)) = omega (arith, which, z)

@@ -10,14 +10,14 @@ use Rattle.grpc_framing.specs.Framing.{Messages, messages_of, all_then, items}
 use Rattle.grpc_framing.proofs.Fronts.{front_at-nil}
 use Rattle.grpc_framing.proofs.Streams.{messages_of-need_more}
 use Rattle.message_run.specs.Answering.{Answering, course_from}
-use Rattle.message_run.specs.Outcomes.{Close, Whole, Unread, Outcome, messages_in, outcome_at, outcome_of, closing, close_at_rest, LIMIT, LONGEST}
+use Rattle.message_run.specs.Outcomes.{Close, Whole, Unread, Outcome, messages_in, outcome_at, outcome_of, close_at_rest, LIMIT, LONGEST}
 use Rattle.message_run.specs.Written.{Wrote, WrotePart}
 use Rattle.message_run.specs.Reading.{Goes, StopsAt, Stopped, IsOfPieces, close_of, behind, stop_at}
 use Rattle.message_run.specs.Runs.{Told}
 use Rattle.message_run.specs.declared.stop.Stop.{Stop}
 use Rattle.message_run.specs.declared.stop.Stop.TheVariants as why
 use Rattle.message_run.proofs.Courses.{course_none, outcome_is}
-use Rattle.message_run.proofs.Sinks.{wrote_nothing}
+use Rattle.message_run.proofs.Sinks.{wrote_nothing, wrote_whole}
 use Rattle.message_run.proofs.Streams.{few_read}
 
 -- the bytes so far are served
@@ -102,7 +102,7 @@ stopped_with f stands stop told bytes o taken_is left_is is close_is wrote stood
   still = λ close e rest l. still rest l ∙ sym is;
   over = over;
   failed = λ e. absurd (none_closes o.close (sym (ap close_of e) ∙ close_is));
-  part = rw is (record { written = o.written; others = closing o.close; parts = refl; wrote = wrote });
+  answers = rw is (wrote_whole told.before told.after o.written wrote);
 }
 
 module _ (f : Answering) (stands : List (List ℕ) → Type 0) (told : Told) (held : List ℕ) (taken : ℕ) (h : IsRunning f stands told held taken) where
@@ -114,18 +114,16 @@ module _ (f : Answering) (stands : List (List ℕ) → Type 0) (told : Told) (he
 
   -- reading failed
   pub stopped_unread : Stopped f stands why.ReadFault told
-  stopped_unread =
-      let close = close_at_rest (length h.bytes) (length (items h.on.reads.messages)) held NeedMore in
-      record {
-        taken = h.bytes;
-        taken_is = h.taken_is;
-        left_is = h.left_is;
-        closes = λ close e. absurd cc;
-        still = λ close e. absurd cc;
-        over = λ e. absurd cc;
-        failed = λ e. rw (outcome_now (length h.bytes)) h.on.reads.stood;
-        part = rw (outcome_now (length h.bytes)) (record { written = h.on.sent; others = closing close; parts = refl; wrote = h.on.wrote });
-      }
+  stopped_unread = record {
+    taken = h.bytes;
+    taken_is = h.taken_is;
+    left_is = h.left_is;
+    closes = λ close e. absurd cc;
+    still = λ close e. absurd cc;
+    over = λ e. absurd cc;
+    failed = λ e. rw (outcome_now (length h.bytes)) h.on.reads.stood;
+    answers = rw (outcome_now (length h.bytes)) (wrote_whole told.before told.after h.on.sent h.on.wrote);
+  }
 
 end_of : (b : Bool) (place offset : ℕ) → offset ≡ place → close_of (if b then why.Finished else why.Unread place) ≡ Some (if b then Whole else Unread offset)
 end_of true place offset e = refl
@@ -195,9 +193,6 @@ not_read_fault why.NoMemory h e = absurd cc
 written_is : (f : Answering) (count : ℕ) (cut : Messages) → (outcome_at f count cut).written ≡ (course_from f [] cut.messages).written
 written_is f count cut = ap (λ (x : Outcome). x.written) (outcome_is f count cut (course_from f [] cut.messages) refl)
 
-part_more : (before after : Option (List ℕ)) (bytes more : List ℕ) → WrotePart before bytes after → WrotePart before (bytes ++ more) after
-part_more before after bytes more w = record { written = w.written; others = w.others ++ more; parts = ap (λ (x : List ℕ). x ++ more) w.parts ∙ append_assoc w.written w.others more; wrote = w.wrote }
-
 -- the messages of the piece stop the run
 pub stopped_by : (f : Answering) (stands later : List (List ℕ) → Type 0) (stop : Stop) (told : Told) (held piece : List ℕ) (count : ℕ) (taken left after : Option (List ℕ)) (h : IsRunning f stands told held count)
     → taken ≡ option_map (λ given. given ++ piece) told.taken_after → told.left_after ≡ option_map (λ rest. piece ++ rest) left → count + length piece ≤ LONGEST → StopsAt f later (h.bytes ++ piece) told.before stop after → IsOfPieces stop
@@ -222,7 +217,7 @@ stopped_by f stands later stop told held piece count taken left after h t l le s
           ∙ sym (ap (outcome_at f (length bytes)) (short_messages bytes short ∙ ap (messages_of LIMIT) (sym (append-nil bytes))) ∙ c.1.closes (length bytes) []);
       over = λ e. absurd (not_finished stop kind e);
       failed = λ e. absurd (not_read_fault stop kind e);
-      part = part_more told.before after (outcome_of f bytes).written (closing (outcome_of f bytes).close) (subst (λ (x : List ℕ). WrotePart told.before x after) (sym written) s.part);
+      answers = subst (λ (x : List ℕ). WrotePart told.before x after) (sym written) s.part;
     }
 
 pub running_on : (f : Answering) (stands later : List (List ℕ) → Type 0) (told : Told) (held held' piece : List ℕ) (count : ℕ) (taken left after : Option (List ℕ)) (h : IsRunning f stands told held count)

@@ -42,6 +42,14 @@ put_whole before now piece rest h none =
 pub wrote_none : (o : Option (List ℕ)) → WrotePart o [] o
 wrote_none o = record { written = []; others = []; parts = refl; wrote = wrote_nothing o }
 
+-- all of it was written
+pub wrote_whole : (before after : Option (List ℕ)) (bytes : List ℕ) → Wrote before bytes after → WrotePart before bytes after
+wrote_whole before after bytes w = record { written = bytes; others = []; parts = sym (append-nil bytes); wrote = w }
+
+-- a front of the bytes is one of more of them
+pub part_more : (before after : Option (List ℕ)) (bytes more : List ℕ) → WrotePart before bytes after → WrotePart before (bytes ++ more) after
+part_more before after bytes more w = record { written = w.written; others = w.others ++ more; parts = ap (λ (x : List ℕ). x ++ more) w.parts ∙ append_assoc w.written w.others more; wrote = w.wrote }
+
 -- a count stays where there is no failure
 pub stayed : (before now : ℕ) (P : Type 0) → StaysUnless before now P → (P → ⊥) → now ≡ before
 stayed before now P (inl failed) none = absurd (none failed)

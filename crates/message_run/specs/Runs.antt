@@ -35,6 +35,8 @@ pub record Runs (f : Answering) (has_done has_left : List (List ℕ) → Type 0)
   pub failed : status ≡ 4 → has_done (done_of f taken)
   -- 0: nothing is left
   pub over : status ≡ 0 → IfSome told.left_after (λ rest. rest ≡ [])
+  -- 4 and 6: of the last item nothing was written
+  pub answers : (status ≡ 4) ⊎ (status ≡ 6) → WrotePart told.before (outcome_of f taken).written told.after
   -- always: what was written is the first of what is to be written for the bytes taken
   pub part : WrotePart told.before (output_of f taken) told.after
 
@@ -55,5 +57,7 @@ pub record RunsOver (f : Answering) (has_done has_left : List (List ℕ) → Typ
   pub server : IsClosing status → has_left (done_of f input)
   -- 4: the server has done the messages of the bytes taken
   pub failed : status ≡ 4 → has_done (done_of f taken)
+  -- 4 and 6: of the last item nothing was written
+  pub answers : (status ≡ 4) ⊎ (status ≡ 6) → WrotePart told.before (outcome_of f taken).written told.after
   -- always: what was written is the first of what is to be written for the bytes taken
   pub part : WrotePart told.before (output_of f taken) told.after

@@ -103,6 +103,7 @@ fn close<K: Sink>(status: u8, flag: u8, number: u128, out: &mut Vec<u8>, output:
     ensures status { (result ≡ status) ⊎ (result ≡ 5) ⊎ (result ≡ 6) }
     ensures whole { result ≡ status → Wrote (K.placed output.old) (item_said flag number) (K.placed output.new) }
     ensures part { WrotePart (K.placed output.old) (item_said flag number) (K.placed output.new) }
+    ensures lacks { result ≡ 6 → K.placed output.new ≡ K.placed output.old }
     ensures cause { HasCause (K.faults output.old) (K.faults output.new) (result ≡ 5) }
     ensures stays { StaysUnless (K.faults output.old) (K.faults output.new) (result ≡ 5) }
 {
