@@ -1,4 +1,3 @@
-use Rattle.std.proofs.Common.{sym}
 use Rattle.apply_path.specs.Fates.{apply_answering}
 use Rattle.apply_path.proofs.Runs.{lacks_memory, lacks_memory_over}
 use Rattle.gribi_program.specs.Settings.{setting_with}
