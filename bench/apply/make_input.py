@@ -44,4 +44,5 @@ def main() -> None:
         out.write(item(piece(1, operation)))
 
 
-main()
+if __name__ == "__main__":
+    main()
