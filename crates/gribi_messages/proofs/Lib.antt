@@ -9,3 +9,6 @@ pub mod Answered
 pub mod Embedded
 pub mod Asked
 pub mod Flushed
+pub mod Quiet
+pub mod Bunched
+pub mod RequestAgain

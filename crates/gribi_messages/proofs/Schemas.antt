@@ -38,7 +38,7 @@ listed_at (row ∷ rows) (suc i) d h lt =
     let other : eqb (get_or rows i d).0 row.0 ≡ false = not_here row.0 rows i d (not_true (list_any (λ m. eqb m row.0) (numbers_of rows)) parts.0) (omega arith) in
     rw other (listed_at rows i d parts.1 (omega arith))
 
-all_at : {A : Type 0} (p : A → Bool) (xs : List A) (i : ℕ) (d : A) → list_all p xs ≡ true → i < length xs → p (get_or xs i d) ≡ true
+pub all_at : {A : Type 0} (p : A → Bool) (xs : List A) (i : ℕ) (d : A) → list_all p xs ≡ true → i < length xs → p (get_or xs i d) ≡ true
 all_at p [] i d h lt = absurd (omega arith)
 all_at p (x ∷ xs) zero d h lt = (and_parts (p x) (list_all p xs) h).0
 all_at p (x ∷ xs) (suc i) d h lt = all_at p xs i d (and_parts (p x) (list_all p xs) h).1 (omega arith)

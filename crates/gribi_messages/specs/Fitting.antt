@@ -1,7 +1,11 @@
 -- Messages that fit on the wire: numbers of 64 bits, election ids of 128, texts of UTF-8.
-use Rattle.std.specs.Prelude.{◌<◌, ◌^◌, length, All, IfSome, FitsSigned}
+use Rattle.std.specs.Prelude.{◌≡◌, ◌<◌, ◌^◌, length, All, IfSome, is_some, true, FitsSigned}
 use Rattle.std.specs.Str.{IsUtf8}
 use Rattle.std.specs.Int.{w64}
+use Rattle.aft_entries.specs.declared.operation.RawOperation.{RawOperation}
+use Rattle.aft_messages.specs.Sent.{IsSent}
+use Rattle.gribi_messages.specs.declared.request.RawParams.{RawParams}
+use Rattle.gribi_messages.specs.declared.request.ModifyRequest.{ModifyRequest}
 use Rattle.gribi_messages.specs.declared.asks.InstanceAsk.{InstanceAsk}
 use Rattle.gribi_messages.specs.declared.asks.InstanceAsk.TheVariants as ask
 use Rattle.gribi_messages.specs.declared.asks.FlushAsk.{FlushAsk}
@@ -38,3 +42,21 @@ IsElection election.Override = Unit {0}
 pub record IsFlush (r : FlushRequest) : Type 0 where
   pub election : IfSome r.election IsElection
   pub instance : IfSome r.instance IsName
+
+-- Each operation has an op: one without it is written without its number.
+pub record IsOperation (o : RawOperation) : Type 0 where
+  pub id : o.id < 2 ^ 64
+  pub instance : IsUtf8 o.instance
+  pub op : is_some o.op ≡ true
+  pub entry : IfSome o.entry IsSent
+  pub election : IfSome o.election (λ id. id < 2 ^ 128)
+
+pub record IsParams (p : RawParams) : Type 0 where
+  pub redundancy : p.redundancy < 2 ^ 64
+  pub persistence : p.persistence < 2 ^ 64
+  pub ack : p.ack < 2 ^ 64
+
+pub record IsRequest (r : ModifyRequest) : Type 0 where
+  pub operations : All IsOperation r.operations
+  pub params : IfSome r.params IsParams
+  pub election : IfSome r.election (λ id. id < 2 ^ 128)

@@ -1,4 +1,4 @@
-ghost use Rattle.std.specs.Prelude.{◌≡◌, ◌<◌, ◌^◌, ℕ, None, FitsSigned};
+ghost use Rattle.std.specs.Prelude.{◌≡◌, ◌<◌, ◌^◌, ℕ, None, FitsSigned, length};
 ghost use Rattle.std.specs.Int.{w64};
 ghost use Rattle.schema_numbers.specs.Numbers.{Numbers};
 ghost use Rattle.schema_numbers.specs.Valid.{IsValid};
@@ -7,9 +7,12 @@ ghost use Rattle.proto_schema.specs.Legal.{first_fault};
 ghost use Rattle.gribi_messages.specs.declared.asks.GetRequest.{GetRequest};
 ghost use Rattle.gribi_messages.specs.declared.asks.FlushRequest.{FlushRequest};
 ghost use Rattle.gribi_messages.specs.declared.asks.FlushResponse.{FlushResponse};
+ghost use Rattle.gribi_messages.specs.declared.request.ModifyRequest.{ModifyRequest};
 ghost use Rattle.gribi_messages.specs.declared.response.ModifyResponse.{ModifyResponse};
+ghost use Rattle.gribi_messages.specs.Request.{modify_request};
+ghost use Rattle.gribi_messages.specs.Spelled.{request_bytes};
 ghost use Rattle.gribi_messages.specs.Response.{response_bytes, modify_response};
-ghost use Rattle.gribi_messages.specs.Fitting.{IsResponse, IsGet, IsFlush};
+ghost use Rattle.gribi_messages.specs.Fitting.{IsResponse, IsRequest, IsGet, IsFlush};
 ghost use Rattle.gribi_messages.specs.Asks.{get_request, get_bytes, flush_request, flush_bytes, flush_response, flush_response_bytes};
 
 /// The answer of a Flush call that was written is read again, under every valid numbering.
@@ -38,4 +41,11 @@ pub fn flush_request_is_read_again()
     ensures { (n : Numbers) (r : FlushRequest) → IsValid n → IsFlush r →
         (first_fault n message.FlushRequest (flush_bytes n r) ≡ None)
         × (flush_request n (flush_bytes n r) ≡ r) }
+{}
+
+/// The request of a Modify call that was written is read again, under every valid numbering.
+pub fn modify_request_is_read_again()
+    ensures { (n : Numbers) (r : ModifyRequest) → IsValid n → IsRequest r → length (request_bytes n r) < 2 ^ 64 →
+        (first_fault n message.ModifyRequest (request_bytes n r) ≡ None)
+        × (modify_request n (request_bytes n r) ≡ r) }
 {}
