@@ -12,3 +12,4 @@ pub mod Flushed
 pub mod Quiet
 pub mod Bunched
 pub mod RequestAgain
+pub mod RowsAgain

@@ -1,8 +1,11 @@
 -- Messages that fit on the wire: numbers of 64 bits, election ids of 128, texts of UTF-8.
-use Rattle.std.specs.Prelude.{◌≡◌, ◌<◌, ◌^◌, length, All, IfSome, is_some, true, FitsSigned}
+use Rattle.std.specs.Prelude.{◌≡◌, ℕ, ◌<◌, ◌^◌, List, [], length, slice_index_or, All, IfSome, is_some, true, FitsSigned}
 use Rattle.std.specs.Str.{IsUtf8}
 use Rattle.std.specs.Int.{w64}
+use Rattle.aft_entries.specs.Shapes.{fits}
 use Rattle.aft_entries.specs.declared.operation.RawOperation.{RawOperation}
+use Rattle.aft_entries.specs.declared.operation.Row.{Row}
+use Rattle.aft_messages.specs.Printing.{raw_of}
 use Rattle.aft_messages.specs.Sent.{IsSent}
 use Rattle.gribi_messages.specs.declared.request.RawParams.{RawParams}
 use Rattle.gribi_messages.specs.declared.request.ModifyRequest.{ModifyRequest}
@@ -60,3 +63,9 @@ pub record IsRequest (r : ModifyRequest) : Type 0 where
   pub operations : All IsOperation r.operations
   pub params : IfSome r.params IsParams
   pub election : IfSome r.election (λ id. id < 2 ^ 128)
+
+-- A row's payload is of its key's kind, as that of each entry is. The instances have these names.
+pub record IsRow (names : List (List ℕ)) (row : Row) : Type 0 where
+  pub fits : fits row.entry.key.name row.entry.payload ≡ true
+  pub sent : IsSent (raw_of names row.entry)
+  pub instance : IsUtf8 (slice_index_or names row.entry.key.instance [])

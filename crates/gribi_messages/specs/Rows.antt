@@ -1,5 +1,5 @@
 -- What the bytes of a GetResponse say, and its one spelling (gRIBI, Protocol Buffers encoding).
-use Rattle.std.specs.Prelude.{ℕ, ◌<◌, List, [], ◌∷◌, ◌++◌, map, ◌==◌, slice_index_or, if◌then◌else◌}
+use Rattle.std.specs.Prelude.{ℕ, Bool, ◌<◌, Some, List, [], ◌∷◌, ◌++◌, map, ◌==◌, slice_index_or, if◌then◌else◌}
 use Rattle.std.specs.List.{flat_map}
 use Rattle.std.specs.Option.{option_map}
 use Rattle.proto_wire.specs.Written.{bytes_field}
@@ -77,6 +77,21 @@ row_field n names row = bytes_field (field_of n field.GetResponseEntry) (row_byt
 
 unfoldable pub rows_bytes : Numbers → List (List ℕ) → List Row → List ℕ
 rows_bytes n names rows = flat_map (row_field n names) rows
+
+-- ---- what is read again
+
+-- the status in the FIB of an entry that is installed, or isn't
+abbrev pub fib_status_of : Numbers → Bool → ℕ
+fib_status_of n installed = if installed then value_of n value.EntryStatusProgrammed else value_of n value.EntryStatusNotProgrammed
+
+-- A row as it is read: its entry's texts in their printed forms.
+unfoldable pub row_sent : Numbers → List (List ℕ) → Row → RawRow
+row_sent n names row = record {
+  instance = slice_index_or names row.entry.key.instance [];
+  entry = Some (raw_of names row.entry);
+  rib_status = value_of n value.EntryStatusProgrammed;
+  fib_status = fib_status_of n row.installed;
+}
 
 -- the instance numbers of a row are names of the list
 abbrev pub IsRowNamed : ℕ → Row → Type 0

@@ -1,4 +1,4 @@
-ghost use Rattle.std.specs.Prelude.{◌≡◌, ◌<◌, ◌^◌, ℕ, None, FitsSigned, length};
+ghost use Rattle.std.specs.Prelude.{◌≡◌, ◌<◌, ◌^◌, ℕ, List, None, All, FitsSigned, length, map};
 ghost use Rattle.std.specs.Int.{w64};
 ghost use Rattle.schema_numbers.specs.Numbers.{Numbers};
 ghost use Rattle.schema_numbers.specs.Valid.{IsValid};
@@ -7,12 +7,14 @@ ghost use Rattle.proto_schema.specs.Legal.{first_fault};
 ghost use Rattle.gribi_messages.specs.declared.asks.GetRequest.{GetRequest};
 ghost use Rattle.gribi_messages.specs.declared.asks.FlushRequest.{FlushRequest};
 ghost use Rattle.gribi_messages.specs.declared.asks.FlushResponse.{FlushResponse};
+ghost use Rattle.aft_entries.specs.declared.operation.Row.{Row};
 ghost use Rattle.gribi_messages.specs.declared.request.ModifyRequest.{ModifyRequest};
 ghost use Rattle.gribi_messages.specs.declared.response.ModifyResponse.{ModifyResponse};
 ghost use Rattle.gribi_messages.specs.Request.{modify_request};
+ghost use Rattle.gribi_messages.specs.Rows.{get_response, rows_bytes, row_sent};
 ghost use Rattle.gribi_messages.specs.Spelled.{request_bytes};
 ghost use Rattle.gribi_messages.specs.Response.{response_bytes, modify_response};
-ghost use Rattle.gribi_messages.specs.Fitting.{IsResponse, IsRequest, IsGet, IsFlush};
+ghost use Rattle.gribi_messages.specs.Fitting.{IsResponse, IsRequest, IsRow, IsGet, IsFlush};
 ghost use Rattle.gribi_messages.specs.Asks.{get_request, get_bytes, flush_request, flush_bytes, flush_response, flush_response_bytes};
 
 /// The answer of a Flush call that was written is read again, under every valid numbering.
@@ -48,4 +50,12 @@ pub fn modify_request_is_read_again()
     ensures { (n : Numbers) (r : ModifyRequest) → IsValid n → IsRequest r → length (request_bytes n r) < 2 ^ 64 →
         (first_fault n message.ModifyRequest (request_bytes n r) ≡ None)
         × (modify_request n (request_bytes n r) ≡ r) }
+{}
+
+/// A message of an answer to a Get that was written is read again, under every valid numbering: each row with its
+/// instance's name, its entry in the printed forms, and its statuses.
+pub fn get_response_is_read_again()
+    ensures { (n : Numbers) (names : List (List ℕ)) (rows : List Row) → IsValid n → All (IsRow names) rows → length (rows_bytes n names rows) < 2 ^ 64 →
+        (first_fault n message.GetResponse (rows_bytes n names rows) ≡ None)
+        × (get_response n (rows_bytes n names rows) ≡ record { rows = map (row_sent n names) rows }) }
 {}

@@ -24,7 +24,7 @@ pub use get::{decode_get, encode_get_request};
 pub use heard::{Heard, hear, only_operation};
 pub use laws::{
     flush_request_is_read_again, flush_response_is_read_again, get_request_is_read_again,
-    modify_request_is_read_again, modify_response_is_read_again,
+    get_response_is_read_again, modify_request_is_read_again, modify_response_is_read_again,
 };
 pub use lists::{AftResults, RawOperations};
 pub use proto_schema::MessageFault;
