@@ -70,7 +70,10 @@ impl<'a> Model for FieldReader<'a> {
     ghost invariant = { λ r. r.place + length r.rest.now < 2 ^ 64 };
 }
 
+// What reads a field is inlined into the loops over fields, which then keep it in registers.
+
 /// The number of the varint at the front, and how many bytes it takes.
+#[inline(always)]
 fn varint_at(bytes: &[u8]) -> Result<(u64, usize), WireFault>
     ensures value { result ≡ varint_at bytes.now }
     ensures within { IfOk result (λ r. (1 ≤ r.1) × (r.1 ≤ length bytes.now)) }
@@ -82,6 +85,7 @@ fn varint_at(bytes: &[u8]) -> Result<(u64, usize), WireFault>
     }
 }
 
+#[inline(never)]
 fn long_varint_at(bytes: &[u8]) -> Result<(u64, usize), WireFault>
     ensures value { result ≡ varint_at bytes.now }
     ensures within { IfOk result (λ r. (1 ≤ r.1) × (r.1 ≤ length bytes.now)) }
@@ -107,6 +111,7 @@ fn long_varint_at(bytes: &[u8]) -> Result<(u64, usize), WireFault>
 }
 
 #[tactic(auto, unfolding(crate::specs::Wire::value_at))]
+#[inline(always)]
 fn bytes_at(bytes: &[u8]) -> Result<(WireValue<'_>, usize), WireFault>
     ensures value { value_seen result ≡ value_at 2 bytes.now }
     ensures within { IfOk result (λ r. r.1 ≤ length bytes.now) }
@@ -122,6 +127,7 @@ fn bytes_at(bytes: &[u8]) -> Result<(WireValue<'_>, usize), WireFault>
 }
 
 #[tactic(auto, unfolding(crate::specs::Wire::value_at))]
+#[inline(always)]
 fn eight_at(bytes: &[u8]) -> Result<(WireValue<'_>, usize), WireFault>
     ensures value { value_seen result ≡ value_at 1 bytes.now }
     ensures within { IfOk result (λ r. r.1 ≤ length bytes.now) }
@@ -136,6 +142,7 @@ fn eight_at(bytes: &[u8]) -> Result<(WireValue<'_>, usize), WireFault>
 }
 
 #[tactic(auto, unfolding(crate::specs::Wire::value_at))]
+#[inline(always)]
 fn four_at(bytes: &[u8]) -> Result<(WireValue<'_>, usize), WireFault>
     ensures value { value_seen result ≡ value_at 5 bytes.now }
     ensures within { IfOk result (λ r. r.1 ≤ length bytes.now) }
@@ -150,6 +157,7 @@ fn four_at(bytes: &[u8]) -> Result<(WireValue<'_>, usize), WireFault>
 }
 
 #[tactic(auto, unfolding(crate::specs::Wire::value_at))]
+#[inline(always)]
 fn value_at(kind: u64, bytes: &[u8]) -> Result<(WireValue<'_>, usize), WireFault>
     ensures value { value_seen result ≡ value_at kind bytes.now }
     ensures within { IfOk result (λ r. r.1 ≤ length bytes.now) }
@@ -168,6 +176,7 @@ fn value_at(kind: u64, bytes: &[u8]) -> Result<(WireValue<'_>, usize), WireFault
 }
 
 #[tactic(auto, unfolding(crate::specs::Wire::body_at))]
+#[inline(always)]
 fn body_at(bytes: &[u8]) -> Result<(u32, WireValue<'_>, usize), WireFault>
     ensures value { body_seen result ≡ body_at bytes.now }
     ensures within { IfOk result (λ r. (1 ≤ r.2) × (r.2 ≤ length bytes.now)) }
@@ -213,6 +222,7 @@ impl<'a> FieldReader<'a> {
 
     /// Reads the next field. After `End` or a refusal it answers the same again.
     #[tactic(auto, unfolding(crate::specs::Fields::fields_from, crate::specs::Fields::fields_upto))]
+    #[inline(always)]
     pub fn next(&mut self) -> Next<'a>
         ensures reads { Reads self.old result self.new }
         ensures holds { IsWithin result self.new.0 }
