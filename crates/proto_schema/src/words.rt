@@ -91,8 +91,26 @@ pub fn join<'a>(
 }
 
 /// An embedded message: its occurrences, one behind the other.
-#[tactic(auto, unfolding(crate::specs::Words::message_at))]
+#[tactic(auto, using(crate::proofs::Nothing::no_message))]
+#[inline(always)]
 pub fn message_at<'a>(
+    alloc: Global,
+    wanted: u32,
+    bytes: &'a [u8],
+) -> Result<Option<Joined<'a>>, AllocError>
+    ensures { IfOk result (λ all. all ≡ joined_at wanted bytes.now) }
+{
+    // Most messages that may be embedded are not there.
+    if bytes.is_empty() {
+        return Ok(None);
+    }
+    message_in(alloc, wanted, bytes)
+}
+
+// The same of any bytes, field by field.
+#[tactic(auto, unfolding(crate::specs::Words::message_at))]
+#[inline(never)]
+fn message_in<'a>(
     alloc: Global,
     wanted: u32,
     bytes: &'a [u8],

@@ -5,6 +5,7 @@ use std::alloc::AllocError;
 
 /// Appends a number as a varint, in as few bytes as it takes. Without memory `out` is unchanged.
 #[tactic(auto, using(crate::proofs::Writing::short_varint))]
+#[inline(always)]
 pub fn write_varint(value: u64, out: &mut Vec<u8>) -> Result<(), AllocError>
     ensures ok { OnOk result (out.new.items ≡ out.old.items ++ varint value) }
     ensures err { OnErr result (out.new.items ≡ out.old.items) }
@@ -17,6 +18,7 @@ pub fn write_varint(value: u64, out: &mut Vec<u8>) -> Result<(), AllocError>
     write_long_varint(value, out)
 }
 
+#[inline(never)]
 fn write_long_varint(value: u64, out: &mut Vec<u8>) -> Result<(), AllocError>
     ensures ok { OnOk result (out.new.items ≡ out.old.items ++ varint value) }
     ensures err { OnErr result (out.new.items ≡ out.old.items) }

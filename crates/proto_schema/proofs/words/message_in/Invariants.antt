@@ -1,7 +1,7 @@
 use Rattle.std.proofs.Common.{◌≡◌, None, length}
 use Rattle.proto_schema.specs.Words.{pieces, joined_onto}
 use Rattle.proto_wire.specs.Fields.{fields, fields_from}
-use Rattle.proto_schema.proofs.words.message_at.Given as goal
+use Rattle.proto_schema.proofs.words.message_in.Given as goal
 
 abbrev pub invariant-loop-field : goal.invariant-loop-field
 invariant-loop-field l = joined_onto (l.all) (pieces l.wanted (fields_from l.reader.0 l.reader.1).fields) ≡ joined_onto None (pieces l.wanted (fields l.bytes).fields)
