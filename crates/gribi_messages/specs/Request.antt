@@ -45,7 +45,11 @@ entry_members n =
     field_of n field.AftOperationPolicyForwardingEntry ∷
     []
 
--- What a member of that oneof says. Of the last two the bytes are not read.
+-- Of the last two the bytes are not read.
+abbrev pub unread_member : Numbers → ℕ → RawEntry
+unread_member n number = if number == field_of n field.AftOperationMacAddress then Mac else Policy
+
+-- What a member of that oneof says.
 abbrev pub member_entry : Numbers → (ℕ × List ℕ) → RawEntry
 member_entry n member =
     if member.0 == field_of n field.AftOperationIpv4 then entry_of n kind.V4 member.1 else
@@ -53,8 +57,7 @@ member_entry n member =
     if member.0 == field_of n field.AftOperationMpls then entry_of n kind.Label member.1 else
     if member.0 == field_of n field.AftOperationNextHopGroup then entry_of n kind.Group member.1 else
     if member.0 == field_of n field.AftOperationNextHop then entry_of n kind.Hop member.1 else
-    if member.0 == field_of n field.AftOperationMacAddress then Mac else
-    Policy
+    unread_member n member.0
 
 unfoldable pub operation_of : Numbers → List ℕ → RawOperation
 operation_of n bytes = record {

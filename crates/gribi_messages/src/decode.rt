@@ -1,4 +1,4 @@
-ghost use Rattle.std.specs.Prelude.{◌≡◌, ◌++◌, IfOk, OnOk, map, unwrap_or};
+ghost use Rattle.std.specs.Prelude.{◌≡◌, ℕ, List, IfOk, MatchOption, map, unwrap_or};
 ghost use Rattle.std.specs.Option.{option_map};
 ghost use Rattle.proto_schema.specs.declared.schema.MessageKind.TheVariants as message;
 ghost use Rattle.proto_schema.specs.Legal.{first_fault as fault_of};
@@ -6,7 +6,8 @@ ghost use Rattle.proto_schema.specs.Words.{message_at as joined_at, repeated_at}
 ghost use Rattle.proto_schema.specs.Chosen.{chosen_seen};
 ghost use Rattle.schema_numbers.specs.Numbers.{field_of};
 ghost use Rattle.aft_messages.specs.Decodes.{Decodes};
-ghost use Rattle.gribi_messages.specs.Request.{params_of as params_said, uint128_of as uint128_said, op_of as op_said, operation_of as operation_said, member_entry, entry_members, modify_request, operations_of as operations_said, parameters_of as parameters_said};
+ghost use Rattle.aft_messages.specs.Reading.{entry_of as entry_said};
+ghost use Rattle.gribi_messages.specs.Request.{params_of as params_said, uint128_of as uint128_said, op_of as op_said, operation_of as operation_said, member_entry, unread_member as unread_said, entry_members, modify_request, operations_of as operations_said, parameters_of as parameters_said};
 
 use crate::heard::{hear, hear_request, numbers_at};
 use crate::request::{ModifyRequest, RawParams};
@@ -66,39 +67,43 @@ pub fn election_of(
     }
 }
 
+// The kind of the entry that a member is, where its bytes are read.
+fn kind_of(n: &Numbering, number: u32) -> Option<Kind>
+    ensures { (bytes : List ℕ) → MatchOption result (member_entry n.now (number, bytes) ≡ unread_said n.now number) (λ kind. member_entry n.now (number, bytes) ≡ entry_said n.now kind bytes) }
+{
+    if number == n.field(FieldName::AftOperationIpv4) {
+        Some(Kind::V4)
+    } else if number == n.field(FieldName::AftOperationIpv6) {
+        Some(Kind::V6)
+    } else if number == n.field(FieldName::AftOperationMpls) {
+        Some(Kind::Label)
+    } else if number == n.field(FieldName::AftOperationNextHopGroup) {
+        Some(Kind::Group)
+    } else if number == n.field(FieldName::AftOperationNextHop) {
+        Some(Kind::Hop)
+    } else {
+        None
+    }
+}
+
+// A member whose bytes are not read.
+fn unread_entry(n: &Numbering, number: u32) -> RawEntry
+    ensures { result ≡ unread_said n.now number }
+{
+    if number == n.field(FieldName::AftOperationMacAddress) {
+        RawEntry::Mac
+    } else {
+        RawEntry::Policy
+    }
+}
+
 // What a member of the oneof of an entry says.
 fn entry_of(alloc: Global, n: &Numbering, member: &Chosen<'_>) -> Result<RawEntry, AllocError>
     ensures { IfOk result (λ entry. entry ≡ member_entry n.now (chosen_seen member.now)) }
 {
-    let bytes = member.bytes.as_bytes();
-    let number = member.number;
-    if number == n.field(FieldName::AftOperationIpv4) {
-        read_entry(alloc, n, bytes, Kind::V4)
-    } else if number == n.field(FieldName::AftOperationIpv6) {
-        read_entry(alloc, n, bytes, Kind::V6)
-    } else if number == n.field(FieldName::AftOperationMpls) {
-        read_entry(alloc, n, bytes, Kind::Label)
-    } else if number == n.field(FieldName::AftOperationNextHopGroup) {
-        read_entry(alloc, n, bytes, Kind::Group)
-    } else if number == n.field(FieldName::AftOperationNextHop) {
-        read_entry(alloc, n, bytes, Kind::Hop)
-    } else if number == n.field(FieldName::AftOperationMacAddress) {
-        Ok(RawEntry::Mac)
-    } else {
-        Ok(RawEntry::Policy)
-    }
-}
-
-fn entry_if(
-    alloc: Global,
-    n: &Numbering,
-    member: &Option<Chosen<'_>>,
-) -> Result<Option<RawEntry>, AllocError>
-    ensures { IfOk result (λ entry. entry ≡ option_map (member_entry n.now) (option_map chosen_seen member.now)) }
-{
-    match member {
-        None => Ok(None),
-        Some(member) => Ok(Some(entry_of(alloc, n, member)?)),
+    match kind_of(n, member.number) {
+        Some(kind) => read_entry(alloc, n, member.bytes.as_bytes(), kind),
+        None => Ok(unread_entry(n, member.number)),
     }
 }
 
@@ -109,18 +114,31 @@ pub fn operation_of(alloc: Global, n: &Numbering, bytes: &[u8]) -> Result<RawOpe
 {
     let heard = hear(alloc, n, bytes)?;
     let instance = read_text(alloc, heard.instance.unwrap_or(&[]))?;
-    let entry = entry_if(alloc, n, &heard.entry)?;
     let election = match &heard.election {
         None => None,
         Some(id) => Some(uint128_of(n, id.as_bytes())),
     };
-    Ok(RawOperation {
-        id: heard.id.unwrap_or(0),
-        instance,
-        op: op_of(n, heard.op.unwrap_or(0)),
-        entry,
-        election,
-    })
+    let id = heard.id.unwrap_or(0);
+    let op = op_of(n, heard.op.unwrap_or(0));
+    match &heard.entry {
+        None => Ok(RawOperation {
+            id,
+            instance,
+            op,
+            entry: None,
+            election,
+        }),
+        Some(member) => match entry_of(alloc, n, member) {
+            Ok(entry) => Ok(RawOperation {
+                id,
+                instance,
+                op,
+                entry: Some(entry),
+                election,
+            }),
+            Err(lack) => Err(lack),
+        },
+    }
 }
 
 #[tactic(auto, unfolding(crate::specs::Request::modify_request))]

@@ -15,34 +15,34 @@ use proto_wire::{Field, FieldReader, Next};
 use schema_numbers::{FieldName, Numbering};
 use std::alloc::{AllocError, Global};
 
-// The occurrences so far, with that of this field where it is one.
+// Adds the occurrence in this field, where it is one.
 fn join_next<'a>(
     alloc: Global,
     wanted: u32,
-    before: Option<Joined<'a>>,
+    joined: &mut Option<Joined<'a>>,
     field: &Field<'a>,
-) -> Result<Option<Joined<'a>>, AllocError>
-    ensures { IfOk result (λ now. now ≡ joined_with before.entry (piece_in wanted field.now.number (value_of field.now.value))) }
+) -> Result<(), AllocError>
+    ensures { OnOk result (joined.new ≡ joined_with joined.old (piece_in wanted field.now.number (value_of field.now.value))) }
 {
-    match piece_of(wanted, field) {
-        Some(piece) => Ok(Some(join(alloc, before, piece)?)),
-        None => Ok(before),
+    if let Some(piece) = piece_of(wanted, field) {
+        *joined = Some(join(alloc, joined.take(), piece)?);
     }
+    Ok(())
 }
 
-// The member so far, or this field's where it is one.
+// Adds the member in this field, where it is one.
 fn choose_next<'a>(
     alloc: Global,
     among: &[u32],
-    before: Option<Chosen<'a>>,
+    chosen: &mut Option<Chosen<'a>>,
     field: &Field<'a>,
-) -> Result<Option<Chosen<'a>>, AllocError>
-    ensures { IfOk result (λ now. option_map chosen_seen now ≡ chosen_with (option_map chosen_seen before.entry) (member_in among.now field.now.number (value_of field.now.value))) }
+) -> Result<(), AllocError>
+    ensures { OnOk result (option_map chosen_seen chosen.new ≡ chosen_with (option_map chosen_seen chosen.old) (member_in among.now field.now.number (value_of field.now.value))) }
 {
-    match member_of(among, field) {
-        Some(piece) => Ok(Some(choose(alloc, before, field.number, piece)?)),
-        None => Ok(before),
+    if let Some(piece) = member_of(among, field) {
+        *chosen = Some(choose(alloc, chosen.take(), field.number, piece)?);
     }
+    Ok(())
 }
 
 /// The last numbers of two fields, heard in one pass.
@@ -116,8 +116,8 @@ pub fn hear<'a>(alloc: Global, n: &Numbering, bytes: &'a [u8]) -> Result<Heard<'
                 id = number_of(id_number, &field).or(id);
                 instance = piece_of(instance_number, &field).or(instance);
                 op = number_of(op_number, &field).or(op);
-                entry = choose_next(alloc, &members, entry, &field)?;
-                election = join_next(alloc, election_number, election, &field)?;
+                choose_next(alloc, &members, &mut entry, &field)?;
+                join_next(alloc, election_number, &mut election, &field)?;
             }
             _ => {
                 return Ok(Heard {
@@ -178,8 +178,8 @@ pub fn hear_request<'a>(
         match reader.next() {
             Next::Field(field) => {
                 push_next(alloc, n, operation_number, &mut operations, &field)?;
-                params = join_next(alloc, params_number, params, &field)?;
-                election = join_next(alloc, election_number, election, &field)?;
+                join_next(alloc, params_number, &mut params, &field)?;
+                join_next(alloc, election_number, &mut election, &field)?;
             }
             _ => {
                 return Ok(HeardRequest {

@@ -18,7 +18,7 @@ mod writers;
 
 pub use aft_entries::{Name, Op, RawEntry, RawOperation};
 pub use asks::{FlushAsk, FlushRequest, FlushResponse, GetRequest, InstanceAsk};
-pub use decode::{decode_modify, op_of, uint128_of};
+pub use decode::{decode_modify, op_of, operation_of, uint128_of};
 pub use flush::{decode_flush, decode_flush_response, encode_flush_request, encode_flush_response};
 pub use get::{decode_get, encode_get_request};
 pub use heard::{Heard, hear, only_operation};
