@@ -1,12 +1,16 @@
-ghost use Rattle.std.specs.Prelude.{◌≡◌, map, IfOk};
-ghost use Rattle.std.specs.Option.{option_map};
+ghost use Rattle.std.specs.Prelude.{◌≡◌, map, Some, IfOk, IfErr};
+ghost use Rattle.std.specs.Option.{option_map, option_copied};
 ghost use Rattle.proto_schema.specs.declared.schema.MessageKind.TheVariants as message_kind;
 ghost use Rattle.proto_schema.specs.Legal.{first_fault};
 ghost use Rattle.aft_messages.specs.Decodes.{Decodes};
 ghost use Rattle.session_engine.specs.Orders as said;
 
 use aft_entries::{Instances, RawOperation, check_entry};
-use gribi_messages::{MessageFault, RawOperations, RawParams, decode_modify};
+use gribi_messages::{
+    MessageFault, RawOperations, RawParams, decode_modify, only_operation,
+    operation_of as raw_operation_of,
+};
+use proto_schema::{MessageKind, first_fault};
 use schema_numbers::{Numbering, ValueName};
 use std::alloc::{AllocError, Global};
 use std::marker::Model;
@@ -101,6 +105,7 @@ fn asked_of(n: &Numbering, raw: Option<RawParams>) -> Option<AskedParams>
     }
 }
 
+#[inline(always)]
 fn operation_of(
     alloc: Global,
     instances: &Instances,
@@ -110,8 +115,10 @@ fn operation_of(
 {
     let id = raw.id;
     let election = raw.election;
-    let ask = check_entry(alloc, instances, raw)?;
-    Ok(Operation { id, election, ask })
+    match check_entry(alloc, instances, raw) {
+        Ok(ask) => Ok(Operation { id, election, ask }),
+        Err(lack) => Err(lack),
+    }
 }
 
 fn operations_of(
@@ -149,5 +156,40 @@ pub fn read_orders(alloc: Global, setting: &Setting, message: &[u8]) -> Result<O
                 }),
             }
         }
+    }
+}
+
+/// What the bytes of an operation order, checked as far as it stands by itself. They are to have no fault.
+#[inline(always)]
+pub fn read_operation(
+    alloc: Global,
+    setting: &Setting,
+    bytes: &[u8],
+) -> Result<Operation, AllocError>
+    ensures { IfOk result (λ operation. operation ≡ said.operation_at setting.now bytes.now) }
+{
+    match raw_operation_of(alloc, &setting.numbering, bytes) {
+        Ok(raw) => operation_of(alloc, &setting.instances, raw),
+        Err(lack) => Err(lack),
+    }
+}
+
+/// The bytes of the operation of a ModifyRequest that orders one operation and nothing else, or the first fault of its bytes
+/// with its place. None where the request orders something else or nothing, whether or not its bytes have a fault.
+#[tactic(auto, using(crate::proofs::Single::single))]
+pub fn find_single<'a>(
+    setting: &Setting,
+    message: &'a [u8],
+) -> Result<Option<&'a [u8]>, MessageFault>
+    ensures single { IfOk result (λ bytes. said.FindsSingle setting.now (option_copied bytes) (first_fault setting.now.numbering message_kind.ModifyRequest message.now) (said.orders_of setting.now message.now)) }
+    ensures fault { IfErr result (λ fault. first_fault setting.now.numbering message_kind.ModifyRequest message.now ≡ Some fault) }
+{
+    let n = &setting.numbering;
+    match only_operation(n, message) {
+        None => Ok(None),
+        Some(bytes) => match first_fault(n, MessageKind::ModifyRequest, message) {
+            Some(fault) => Err(fault),
+            None => Ok(Some(bytes)),
+        },
     }
 }

@@ -111,6 +111,10 @@ fn operations_are_checked(rt: HostRuntime) -> Result<(), Fail> {
     let Ok(orders) = read_orders(alloc, &setting, bytes) else {
         return Err(Fail::new("a request that is read"));
     };
+    let Ok(Some(single)) = find_single(&setting, bytes) else {
+        return Err(Fail::new("a request of one operation"));
+    };
+    assert_eq!(rt; single.len(), 17);
     let operations = orders.operations.into_vec();
     assert_eq!(rt; operations.len(), 1);
     for operation in operations {
