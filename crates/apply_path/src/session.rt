@@ -1,4 +1,4 @@
-ghost use Rattle.std.specs.Prelude.{◌≡◌, ◌+◌, ◌<◌, ◌≤◌, ◌^◌, ◌++◌, ◌∷◌, [], List, map, pos, IfOk};
+ghost use Rattle.std.specs.Prelude.{◌≡◌, ◌+◌, ◌<◌, ◌≤◌, ◌^◌, ◌++◌, ◌∷◌, [], ℕ, List, length, map, pos, IfOk};
 ghost use Rattle.std.specs.Option.{option_map_or};
 ghost use Rattle.table_model.specs.Event.{Event, is_no_memory};
 ghost use Rattle.session_engine.specs.Orders.{commands_of};
@@ -10,7 +10,7 @@ use message_run::{Answered, Answerer};
 use proto_schema::MessageFault;
 use rib_core::RibCore;
 use schema_numbers::Numbering;
-use session_engine::{Operations, Orders, Setting, read_orders};
+use session_engine::{Operations, Orders, Setting, find_single, read_operation, read_orders};
 use std::alloc::{AllocError, Global};
 use table_model::{AskedParams, Command, Config, Operation, Reply};
 
@@ -58,6 +58,7 @@ fn do_election(
     }
 }
 
+#[inline(always)]
 fn do_operation(
     alloc: Global,
     n: &Numbering,
@@ -216,7 +217,9 @@ pub struct Session<'a> {
 
 impl<'a> Session<'a> {
     ghost use Rattle.std.specs.Prelude.{[]};
+    ghost use Rattle.apply_path.specs.Fates.{apply_answering};
     ghost use Rattle.apply_path.specs.Serves.{Serves};
+    ghost use Rattle.message_run.specs.Answering.{Appends, StandsAfter};
 
     /// A session that has begun, before any message.
     pub fn new(alloc: Global, setting: &'a Setting) -> Result<Session<'a>, AllocError>
@@ -232,19 +235,17 @@ impl<'a> Session<'a> {
             message: Vec::new(alloc),
         })
     }
-}
 
-impl<'a> Answerer for Session<'a> {
-    ghost use Rattle.apply_path.specs.Fates.{apply_answering};
-    ghost use Rattle.apply_path.specs.Serves.{Serves, HasLeft};
-
-    ghost fate = { λ s. apply_answering s.setting.now };
-
-    ghost stands = { λ s done. Serves s.setting.now s.core s.count done };
-
-    ghost left = { λ s done. HasLeft s.setting.now s.core done };
-
-    fn answer(&mut self, message: &[u8], out: &mut Vec<u8>) -> Answered {
+    // Does what the message orders, whatever that is.
+    #[inline(never)]
+    fn answer_orders(&mut self, message: &[u8], out: &mut Vec<u8>) -> Answered
+        requires { (done : List (List ℕ)) × Serves self.old.setting.now self.old.core self.old.count done × (length done < 2 ^ 61) }
+        ensures setting { self.new.setting.now ≡ self.old.setting.now }
+        ensures appends { (done : List (List ℕ)) → Serves self.old.setting.now self.old.core self.old.count done → length done < 2 ^ 61 →
+            Appends (apply_answering self.old.setting.now done message.now) result out.old.items out.new.items }
+        ensures stood { (done : List (List ℕ)) → Serves self.old.setting.now self.old.core self.old.count done → length done < 2 ^ 61 →
+            StandsAfter (Serves self.new.setting.now self.new.core self.new.count) done message.now result }
+    {
         let setting = self.setting;
         match read_orders(self.alloc, setting, message) {
             Err(fault) => unread(fault),
@@ -260,6 +261,40 @@ impl<'a> Answerer for Session<'a> {
                     out,
                 )
             }
+        }
+    }
+}
+
+impl<'a> Answerer for Session<'a> {
+    ghost use Rattle.apply_path.specs.Fates.{apply_answering};
+    ghost use Rattle.apply_path.specs.Serves.{Serves, HasLeft};
+
+    ghost fate = { λ s. apply_answering s.setting.now };
+
+    ghost stands = { λ s done. Serves s.setting.now s.core s.count done };
+
+    ghost left = { λ s done. HasLeft s.setting.now s.core done };
+
+    fn answer(&mut self, message: &[u8], out: &mut Vec<u8>) -> Answered {
+        let setting = self.setting;
+        match find_single(setting, message) {
+            Err(fault) => unread(fault),
+            Ok(None) => self.answer_orders(message, out),
+            Ok(Some(bytes)) => match read_operation(self.alloc, setting, bytes) {
+                Err(_) => Answered::NoMemory,
+                Ok(operation) => {
+                    self.count += 1;
+                    do_operation(
+                        self.alloc,
+                        &setting.numbering,
+                        &mut self.core,
+                        operation,
+                        self.count,
+                        &mut self.message,
+                        out,
+                    )
+                }
+            },
         }
     }
 

@@ -111,6 +111,7 @@ fn discard(command: Command) {
 }
 
 // The reply to a command, unless there is no room for another event.
+#[inline(always)]
 fn reply_to(core: &mut RibCore, command: Command) -> Reply
     requires { IsTrue (is_built command) }
     ensures room { Replied core.old command result core.new }
