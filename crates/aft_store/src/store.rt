@@ -1,25 +1,29 @@
-ghost use Rattle.std.specs.Prelude.{◌≡◌, ◌+◌, ◌-◌, ◌≤◌, ◌<◌, ◌⊎◌, [], length, IsTrue, OnOk, OnErr, slice_get, option_map, option_copied, vec_len, vec_capacity};
-ghost use Rattle.table_model.specs.Table.{lookup, has, put, take_out, in_order};
+ghost use Rattle.std.specs.Prelude.{◌≡◌, ◌+◌, ◌≤◌, ◌<◌, ◌⊎◌, [], length, IsTrue, OnOk, OnErr, slice_get, option_map, option_copied, vec_len, vec_capacity};
+ghost use Rattle.table_model.specs.Table.{lookup, has, put, take_out};
+ghost use Rattle.aft_store.specs.Boxes.{unboxed, IsLaidOut};
 ghost use Rattle.aft_store.specs.Held.{Held};
 
+use crate::boxes::{add_boxes, insert_box, take_box};
 use crate::place::place_of;
 use aft_entries::{Entry, Key, Payload};
 use std::alloc::{AllocError, Global};
 use std::marker::Model;
-use std::mem;
 
 /// Entries in key order, and room for more. The key of each place is before that of the next.
 #[derive(Drop)]
 pub struct Store {
-    entries: Vec<Entry>,
+    // A box for each, so that a new key moves pointers alone.
+    entries: Vec<Box<Entry>>,
+    // Boxes for new keys. The list of entries has room for them.
+    spare: Vec<Box<Entry>>,
 }
 
 impl Model for Store {
     ghost Value = { Held };
 
-    ghost view = { λ s. record { entries = s.entries.items; spare = vec_capacity s.entries - vec_len s.entries } };
+    ghost view = { λ s. record { entries = unboxed s.entries.items; spare = vec_len s.spare } };
 
-    ghost invariant = { λ s. IsTrue (in_order s.entries.items) };
+    ghost invariant = { λ s. IsLaidOut s.entries.items (vec_len s.entries) (vec_len s.spare) (vec_capacity s.entries) };
 }
 
 impl Store {
@@ -29,6 +33,7 @@ impl Store {
     {
         Store {
             entries: Vec::new(alloc),
+            spare: Vec::new(alloc),
         }
     }
 
@@ -53,7 +58,7 @@ impl Store {
     {
         match place_of(&self.entries, key) {
             Ok(at) => {
-                let entry = &self.entries[at];
+                let entry: &Entry = &self.entries[at];
                 Some(&entry.payload)
             }
             Err(_) => None,
@@ -67,7 +72,12 @@ impl Store {
         ensures kept { self.old.spare ≤ self.new.spare }
         ensures err { OnErr result (self.new ≡ self.old) }
     {
-        self.entries.reserve(more as usize)
+        let more = more as usize;
+        if more <= self.spare.len() {
+            return Ok(());
+        }
+        self.entries.reserve(more)?;
+        add_boxes(*self.spare.allocator(), &mut self.spare, more)
     }
 
     /// Puts the entry in place of the one with its key, and answers that one, if there was one. A key that isn't
@@ -80,11 +90,12 @@ impl Store {
         ensures in_place { IsTrue (has self.old.entries entry.key) → self.old.spare ≤ self.new.spare }
     {
         match place_of(&self.entries, &entry.key) {
-            Ok(at) => Some(mem::replace(&mut self.entries[at], entry)),
-            Err(at) => match self.entries.insert(at, entry) {
-                Ok(()) => None,
-                Err(_) => unreachable!(),
-            },
+            Ok(at) => Some(Box::replace(&mut self.entries[at], entry)),
+            Err(at) => {
+                let place = take_box(&mut self.spare, entry);
+                insert_box(&mut self.entries, at, place);
+                None
+            }
         }
     }
 
@@ -95,7 +106,7 @@ impl Store {
         ensures spare { self.old.spare ≤ self.new.spare }
     {
         match place_of(&self.entries, key) {
-            Ok(at) => Some(self.entries.remove(at)),
+            Ok(at) => Some(Box::into_inner(self.entries.remove(at))),
             Err(_) => None,
         }
     }
