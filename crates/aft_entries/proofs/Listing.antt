@@ -44,6 +44,18 @@ few false false true d e = cc
 few false false false true e = cc
 few false false false false e = refl
 
+some : (a b c d : Bool) → is_none (four a b c d) ≡ true → a ≡ false
+unfolding four
+some true b c d e = cc
+some false b c d e = refl
+
+-- there is a name
+pub some_names : {X : Type 0} (f : X → List ℕ) (xs : List X) → is_none (fault_by f xs) ≡ true → 1 ≤ length xs
+unfolding four
+some_names f xs fine =
+    let first = some (length xs == 0) (list_any (λ x. is_bad_name (f x)) xs) (holds_twice (λ x y. bytes_eq (f x) (f y)) xs) (nat_lt 256 (length xs)) fine in
+    grind (arith, nat_tests)
+
 -- there are at most 256 names
 pub few_names : {X : Type 0} (f : X → List ℕ) (xs : List X) → is_none (fault_by f xs) ≡ true → length xs ≤ 256
 unfolding four

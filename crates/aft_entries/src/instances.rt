@@ -1,4 +1,4 @@
-ghost use Rattle.std.specs.Prelude.{◌≡◌, ◌<◌, IfOk, map, length, string_bytes, slice_index_or, []};
+ghost use Rattle.std.specs.Prelude.{◌≡◌, ◌≤◌, ◌<◌, IfOk, map, length, string_bytes, slice_index_or, []};
 ghost use Rattle.std.specs.List.{list_any, position};
 ghost use Rattle.std.specs.Str.{bytes_eq};
 ghost use Rattle.std.specs.Result.{result_err};
@@ -73,9 +73,11 @@ impl Instances {
     }
 
     /// How many instances there are.
-    #[tactic(auto, using(crate::proofs::Listing::few_names, crate::proofs::Listing::length_map))]
+    #[tactic(auto, using(crate::proofs::Listing::some_names, crate::proofs::Listing::few_names, crate::proofs::Listing::length_map))]
     pub fn count(&self) -> u16
-        ensures { result ≡ length self.now }
+        ensures count { result ≡ length self.now }
+        ensures some { 1 ≤ result }
+        ensures few { result ≤ 256 }
     {
         self.names.as_slice().len() as u16
     }

@@ -179,11 +179,9 @@ fn unread(fault: MessageFault) -> Answered
 
 // A table in which the session has begun.
 fn begun(alloc: Global, instances: u16) -> Result<RibCore, AllocError>
+    requires { (1 ≤ instances) × (instances ≤ 256) }
     ensures { IfOk result (λ core. Begun instances core) }
 {
-    if instances == 0 || instances > 256 {
-        return Err(AllocError);
-    }
     let config = Config {
         instances,
         workers: 1,
