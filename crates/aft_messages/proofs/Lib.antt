@@ -10,3 +10,4 @@ pub mod Groups
 pub mod Five
 pub mod Hops
 pub mod Again
+pub mod Printed

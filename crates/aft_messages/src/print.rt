@@ -1,4 +1,4 @@
-ghost use Rattle.std.specs.Prelude.{◌≡◌, ◌<◌, ◌++◌, [], Some, IfOk, OnOk, OnErr, map, length, slice_index_or};
+ghost use Rattle.std.specs.Prelude.{◌≡◌, ◌<◌, ◌++◌, [], Some, All, IfSome, IfOk, OnOk, OnErr, map, length, slice_index_or};
 ghost use Rattle.std.specs.List.{flat_map};
 ghost use Rattle.std.specs.Option.{option_map};
 ghost use Rattle.proto_wire.specs.Written.{bytes_field};
@@ -8,6 +8,7 @@ ghost use Rattle.addr_text.specs.Printed.{address_text, mac_text, v4_prefix_text
 ghost use Rattle.aft_entries.specs.declared.operation.RawEntry.TheVariants as raw_entry;
 ghost use Rattle.aft_messages.specs.Writing.{pushed_field, hop_bytes, member_field, group_bytes, raw_bytes};
 ghost use Rattle.aft_messages.specs.Printing.{raw_hop, raw_group, raw_member, raw_route, raw_of, IsNamed};
+ghost use Rattle.aft_messages.specs.Sent.{IsNumber, IsMember, IsGroup, IsHop, IsSent, IsReadAgain, raw_kind};
 
 use crate::fields::{enclose, write_number, write_uint_value};
 use crate::write::{
@@ -21,6 +22,16 @@ use aft_entries::{
 };
 use schema_numbers::{FieldName, Numbering};
 use std::alloc::{AllocError, Global};
+
+// A number has 64 bits by its type: to call this is to cite it.
+fn has_64_bits(number: Option<u64>)
+    ensures { IsNumber number }
+{
+    match number {
+        None => (),
+        Some(_number) => (),
+    }
+}
 
 fn printed(alloc: Global, address: Option<Address>) -> Result<Option<Name>, AllocError>
     ensures { IfOk result (λ text. text ≡ option_map address_text address) }
@@ -51,6 +62,7 @@ fn printed_mac(alloc: Global, mac: Option<[u8; 6]>) -> Result<Option<Name>, Allo
 fn write_labels(n: &Numbering, labels: &[u32], out: &mut Vec<u8>) -> Result<(), AllocError>
     ensures ok { OnOk result (out.new.items ≡ out.old.items ++ flat_map (pushed_field n.now) (map Some labels.now)) }
     ensures err { OnErr result (out.new.items ≡ out.old.items) }
+    ensures sent { OnOk result (All IsNumber (map Some labels.now)) }
 {
     let before = out.len();
     for label in labels {
@@ -71,8 +83,10 @@ fn write_hop(
 ) -> Result<(), AllocError>
     ensures ok { OnOk result (out.new.items ≡ out.old.items ++ bytes_field (field_of n.now field.NextHopKeyNextHop) (hop_bytes n.now (raw_hop hop.now))) }
     ensures err { OnErr result (out.new.items ≡ out.old.items) }
+    ensures sent { OnOk result (IsHop (raw_hop hop.now)) }
 {
     let before = out.len();
+    has_64_bits(hop.subinterface);
     let ip = printed(alloc, hop.ip)?;
     let mac = printed_mac(alloc, hop.mac)?;
     let source = printed(alloc, hop.source)?;
@@ -99,6 +113,7 @@ fn write_hop_entry(
 ) -> Result<(), AllocError>
     ensures ok { OnOk result (out.new.items ≡ out.old.items ++ raw_bytes n.now (raw_entry.Hop index (raw_hop hop.now))) }
     ensures err { OnErr result (out.new.items ≡ out.old.items) }
+    ensures sent { OnOk result (IsSent (raw_entry.Hop index (raw_hop hop.now))) }
 {
     let before = out.len();
     write_number(n.field(FieldName::NextHopKeyIndex), index, out)?;
@@ -112,10 +127,13 @@ fn write_hop_entry(
 fn write_members(n: &Numbering, members: &[Member], out: &mut Vec<u8>) -> Result<(), AllocError>
     ensures ok { OnOk result (out.new.items ≡ out.old.items ++ flat_map (member_field n.now) (map raw_member members.now)) }
     ensures err { OnErr result (out.new.items ≡ out.old.items) }
+    ensures sent { OnOk result (All IsMember (map raw_member members.now)) }
 {
     let before = out.len();
     for member in members {
         let weight = Some(u64::from(member.weight));
+        has_64_bits(Some(member.hop));
+        has_64_bits(weight);
         if write_member(n, member.hop, weight, out).is_err() {
             out.truncate(before);
             return Err(AllocError);
@@ -128,8 +146,10 @@ fn write_members(n: &Numbering, members: &[Member], out: &mut Vec<u8>) -> Result
 fn write_group(n: &Numbering, group: &GroupPayload, out: &mut Vec<u8>) -> Result<(), AllocError>
     ensures ok { OnOk result (out.new.items ≡ out.old.items ++ bytes_field (field_of n.now field.NextHopGroupKeyNextHopGroup) (group_bytes n.now (raw_group group.now))) }
     ensures err { OnErr result (out.new.items ≡ out.old.items) }
+    ensures sent { OnOk result (IsGroup (raw_group group.now)) }
 {
     let before = out.len();
+    has_64_bits(group.backup);
     let backup = n.field(FieldName::NextHopGroupBackupNextHopGroup);
     let outer = n.field(FieldName::NextHopGroupKeyNextHopGroup);
     write_members(n, group.members.as_slice(), out)?;
@@ -150,6 +170,7 @@ fn write_group_entry(
 ) -> Result<(), AllocError>
     ensures ok { OnOk result (out.new.items ≡ out.old.items ++ raw_bytes n.now (raw_entry.Group id (raw_group group.now))) }
     ensures err { OnErr result (out.new.items ≡ out.old.items) }
+    ensures sent { OnOk result (IsSent (raw_entry.Group id (raw_group group.now))) }
 {
     let before = out.len();
     write_number(n.field(FieldName::NextHopGroupKeyId), id, out)?;
@@ -171,11 +192,14 @@ fn write_ipv4_entry(
     requires { route.now.instance < length i.now }
     ensures ok { OnOk result (out.new.items ≡ out.old.items ++ raw_bytes n.now (raw_entry.V4 (v4_prefix_text prefix) (raw_route i.now route.now))) }
     ensures err { OnErr result (out.new.items ≡ out.old.items) }
+    ensures sent { OnOk result (IsSent (raw_entry.V4 (v4_prefix_text prefix) (raw_route i.now route.now))) }
 {
     let mut text = String::new(alloc);
     print_v4_prefix(prefix, &mut text)?;
+    has_64_bits(Some(route.group));
     let instance = Some(i.name(route.instance).as_bytes());
-    write_ipv4(n, text.as_bytes(), Some(route.group), instance, out)
+    let written = text.as_str().as_bytes();
+    write_ipv4(n, written, Some(route.group), instance, out)
 }
 
 fn write_ipv6_entry(
@@ -189,11 +213,14 @@ fn write_ipv6_entry(
     requires { route.now.instance < length i.now }
     ensures ok { OnOk result (out.new.items ≡ out.old.items ++ raw_bytes n.now (raw_entry.V6 (v6_prefix_text prefix) (raw_route i.now route.now))) }
     ensures err { OnErr result (out.new.items ≡ out.old.items) }
+    ensures sent { OnOk result (IsSent (raw_entry.V6 (v6_prefix_text prefix) (raw_route i.now route.now))) }
 {
     let mut text = String::new(alloc);
     print_v6_prefix(prefix, &mut text)?;
+    has_64_bits(Some(route.group));
     let instance = Some(i.name(route.instance).as_bytes());
-    write_ipv6(n, text.as_bytes(), Some(route.group), instance, out)
+    let written = text.as_str().as_bytes();
+    write_ipv6(n, written, Some(route.group), instance, out)
 }
 
 fn write_label_entry(
@@ -206,14 +233,14 @@ fn write_label_entry(
     requires { route.now.instance < length i.now }
     ensures ok { OnOk result (out.new.items ≡ out.old.items ++ raw_bytes n.now (raw_entry.Label (Some label) (raw_route i.now route.now))) }
     ensures err { OnErr result (out.new.items ≡ out.old.items) }
+    ensures sent { OnOk result (IsSent (raw_entry.Label (Some label) (raw_route i.now route.now))) }
 {
+    has_64_bits(Some(route.group));
     let instance = Some(i.name(route.instance).as_bytes());
     write_mpls(n, Some(u64::from(label)), Some(route.group), instance, out)
 }
 
-/// Appends the message of an entry: its texts in their printed forms, each weight, and the name of the instance of a
-/// route's group, which is one of `i`. Without memory `out` is unchanged.
-pub fn encode_entry(
+fn write_entry(
     alloc: Global,
     n: &Numbering,
     i: &Instances,
@@ -223,6 +250,7 @@ pub fn encode_entry(
     requires { IsNamed (length i.now) entry.now.payload }
     ensures ok { OnOk result (out.new.items ≡ out.old.items ++ raw_bytes n.now (raw_of i.now entry.now)) }
     ensures err { OnErr result (out.new.items ≡ out.old.items) }
+    ensures sent { OnOk result (IsSent (raw_of i.now entry.now)) }
 {
     match &entry.payload {
         Payload::Hop(hop) => match &entry.key.name {
@@ -240,4 +268,25 @@ pub fn encode_entry(
             _ => Ok(()),
         },
     }
+}
+
+/// Appends the message of an entry: its texts in their printed forms, each weight, and the name of the instance of a
+/// route's group, which is one of `i`. What is appended has no fault, and is read as that entry again. Without memory
+/// `out` is unchanged.
+pub fn encode_entry(
+    alloc: Global,
+    n: &Numbering,
+    i: &Instances,
+    entry: &Entry,
+    out: &mut Vec<u8>,
+) -> Result<(), AllocError>
+    requires { IsNamed (length i.now) entry.now.payload }
+    ensures ok { OnOk result (out.new.items ≡ out.old.items ++ raw_bytes n.now (raw_of i.now entry.now)) }
+    ensures err { OnErr result (out.new.items ≡ out.old.items) }
+    ensures sent { OnOk result (IsSent (raw_of i.now entry.now)) }
+    ensures again { OnOk result (IfSome (raw_kind (raw_of i.now entry.now)) (λ kind. IsReadAgain n.now kind (raw_of i.now entry.now))) }
+{
+    write_entry(alloc, n, i, entry, out)?;
+    n.all_are_valid();
+    Ok(())
 }

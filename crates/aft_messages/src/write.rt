@@ -5,6 +5,7 @@ ghost use Rattle.proto_wire.specs.Written.{bytes_field};
 ghost use Rattle.schema_numbers.specs.Numbers.{field_of};
 ghost use Rattle.schema_numbers.specs.declared.names.FieldName.TheVariants as field;
 ghost use Rattle.aft_entries.specs.declared.operation.RawEntry.TheVariants as raw_entry;
+ghost use Rattle.aft_messages.specs.Sent.{IsText};
 ghost use Rattle.aft_messages.specs.Writing.{address_fields, interface_field, tunnel_field, pushed_field, hop_bytes, member_field, group_bytes, route_bytes, filled_field, uint_value_field, raw_bytes};
 
 use crate::fields::{
@@ -16,7 +17,8 @@ use schema_numbers::{FieldName, Numbering};
 use std::alloc::AllocError;
 
 pub fn text_of(name: &Option<Name>) -> Option<&[u8]>
-    ensures { option_copied result ≡ name.now }
+    ensures value { option_copied result ≡ name.now }
+    ensures utf8 { IsText name.now }
 {
     match name {
         None => None,
