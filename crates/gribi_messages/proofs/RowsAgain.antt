@@ -1,11 +1,12 @@
 -- Messages of an answer to a Get are read again.
-use Rattle.std.proofs.Common.{◌≡◌, ℕ, ◌<◌, ◌≤◌, ◌^◌, Bool, true, false, eqb, List, [], ◌∷◌, ◌++◌, length, get_or, map, Option, Some, None, unwrap_or, refl, sym, ap, ◌∙◌, arith}
+use Rattle.std.proofs.Common.{◌≡◌, ℕ, ◌+◌, ◌<◌, ◌≤◌, ◌^◌, Bool, true, false, eqb, List, [], ◌∷◌, ◌++◌, length, get_or, map, take, Option, Some, None, unwrap_or, refl, sym, subst, ap, ◌∙◌, arith}
 use Rattle.std.specs.Prelude.{All, slice_index_or}
 use Rattle.std.specs.List.{list_any, last_or}
 use Rattle.std.specs.Option.{option_map}
+use Rattle.std.specs.Str.{IsUtf8}
 use Rattle.std.proofs.lemmas.Str.{is_utf8-from_IsUtf8}
-use Rattle.std.proofs.lemmas.List.{append-nil}
-use Rattle.std.proofs.lemmas.List.Elements.{All-head, All-tail}
+use Rattle.std.proofs.lemmas.List.{append-nil, take_all}
+use Rattle.std.proofs.lemmas.List.Elements.{All-head, All-tail, All-more}
 use Rattle.proto_wire.specs.Written.{bytes_field, Text, spelled}
 use Rattle.schema_numbers.specs.Numbers.{Numbers, field_of, value_of}
 use Rattle.schema_numbers.specs.Valid.{IsValid, are_distinct}
@@ -419,3 +420,20 @@ get_response_again n names rows valid h fits_ =
     let short : length (many_bytes (row_number n) (row_bytes n names) rows) < 2 ^ 64 = rw (← rows_are n names rows) fits_ in
     let t : RowsAgain n names rows (rows_bytes n names rows) = rw (rows_are n names rows, response_spelled n names rows) (response_parts_again n names rows valid h short) in
     (t.clean 6 0, rw (t.read) refl)
+
+-- ---- what is written
+
+pub row_is : (names : List (List ℕ)) (row : Row) (name : List ℕ) → fits row.entry.key.name row.entry.payload ≡ true → IsSent (raw_of names row.entry) → name ≡ slice_index_or names row.entry.key.instance [] → IsUtf8 name → IsRow names row
+row_is names row name fit sent is utf8 = record { fits = fit; sent = sent; instance = subst IsUtf8 is utf8 }
+
+pub rows_more : (names : List (List ℕ)) (rows : List Row) (i : ℕ) (row : Row) → i < length rows → row ≡ get_or rows i row → All (IsRow names) (take i rows) → IsRow names row → All (IsRow names) (take (i + 1) rows)
+rows_more names rows i row lt is before one = All-more (IsRow names) rows i row lt before (subst (IsRow names) is one)
+
+pub rows_all : (names : List (List ℕ)) (rows : List Row) (i : ℕ) → length rows ≤ i → All (IsRow names) (take i rows) → All (IsRow names) rows
+rows_all names rows i le all = subst (All (IsRow names)) (take_all i rows le) all
+
+pub written_again : (n : Numbers) (names : List (List ℕ)) (rows : List Row) (start bytes : List ℕ) → IsValid n → All (IsRow names) rows → start ≡ [] → bytes ≡ start ++ rows_bytes n names rows → length bytes < 2 ^ 64
+    → (first_fault n message.GetResponse bytes ≡ None) × (get_response n bytes ≡ record { rows = map (row_sent n names) rows })
+written_again n names rows start bytes valid all empty is fits_ =
+    let same : bytes ≡ rows_bytes n names rows = rw (is, empty) refl in
+    rw same (get_response_again n names rows valid all (subst (λ (x : List ℕ). length x < 2 ^ 64) same fits_))

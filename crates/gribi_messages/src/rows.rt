@@ -1,4 +1,4 @@
-ghost use Rattle.std.specs.Prelude.{◌≡◌, ◌<◌, ◌++◌, ◌∷◌, [], All, IfOk, OnOk, OnErr, length, map};
+ghost use Rattle.std.specs.Prelude.{◌≡◌, ◌<◌, ◌++◌, ◌∷◌, [], All, None, IfOk, OnOk, OnErr, length, map};
 ghost use Rattle.std.specs.List.{flat_map};
 ghost use Rattle.std.specs.Option.{option_map};
 ghost use Rattle.proto_schema.specs.declared.schema.MessageKind.TheVariants as message;
@@ -6,7 +6,10 @@ ghost use Rattle.proto_schema.specs.Legal.{first_fault as fault_of};
 ghost use Rattle.proto_schema.specs.Words.{chosen_at as chosen_member};
 ghost use Rattle.proto_schema.specs.Chosen.{chosen_seen};
 ghost use Rattle.aft_messages.specs.Decodes.{Decodes};
-ghost use Rattle.gribi_messages.specs.Rows.{row_members, row_entry as entry_said, row_of as row_said, rows_of as rows_said, get_response, row_member, row_entry_field, row_bytes, row_field, rows_bytes, IsRowNamed};
+ghost use Rattle.aft_messages.specs.Printing.{raw_of};
+ghost use Rattle.aft_messages.specs.Sent.{IsSent};
+ghost use Rattle.gribi_messages.specs.Rows.{row_members, row_entry as entry_said, row_of as row_said, rows_of as rows_said, get_response, row_member, row_entry_field, row_bytes, row_field, rows_bytes, row_sent, IsRowNamed};
+ghost use Rattle.gribi_messages.specs.Fitting.{IsRow};
 
 use aft_entries::{Instances, KeyName, Kind, Name, RawEntry, Row};
 use aft_messages::{
@@ -186,7 +189,8 @@ fn write_entry(
     out: &mut Vec<u8>,
 ) -> Result<(), AllocError>
     requires { IsRowNamed (length i.now) row.now }
-    ensures { OnOk result (out.new.items ≡ out.old.items ++ row_entry_field n.now i.now row.now) }
+    ensures bytes { OnOk result (out.new.items ≡ out.old.items ++ row_entry_field n.now i.now row.now) }
+    ensures sent { OnOk result (IsSent (raw_of i.now row.now.entry)) }
 {
     let before = out.len();
     encode_entry(alloc, n, i, &row.entry, out)?;
@@ -202,7 +206,8 @@ fn write_row_fields(
     out: &mut Vec<u8>,
 ) -> Result<(), AllocError>
     requires { IsRowNamed (length i.now) row.now }
-    ensures { OnOk result (out.new.items ≡ out.old.items ++ row_bytes n.now i.now row.now) }
+    ensures bytes { OnOk result (out.new.items ≡ out.old.items ++ row_bytes n.now i.now row.now) }
+    ensures row { OnOk result (IsRow i.now row.now) }
 {
     let name = i.name(row.entry.key.instance).as_bytes();
     write_text(n.field(FieldName::AftEntryNetworkInstance), name, out)?;
@@ -227,7 +232,8 @@ fn write_row(
     out: &mut Vec<u8>,
 ) -> Result<(), AllocError>
     requires { IsRowNamed (length i.now) row.now }
-    ensures { OnOk result (out.new.items ≡ out.old.items ++ row_field n.now i.now row.now) }
+    ensures bytes { OnOk result (out.new.items ≡ out.old.items ++ row_field n.now i.now row.now) }
+    ensures row { OnOk result (IsRow i.now row.now) }
 {
     let before = out.len();
     write_row_fields(alloc, n, i, row, out)?;
@@ -242,7 +248,8 @@ fn write_rows(
     out: &mut Vec<u8>,
 ) -> Result<(), AllocError>
     requires { All (IsRowNamed (length i.now)) rows.now }
-    ensures { OnOk result (out.new.items ≡ out.old.items ++ flat_map (row_field n.now i.now) rows.now) }
+    ensures bytes { OnOk result (out.new.items ≡ out.old.items ++ flat_map (row_field n.now i.now) rows.now) }
+    ensures rows { OnOk result (All (IsRow i.now) rows.now) }
 {
     for row in rows {
         write_row(alloc, n, i, row, out)?;
@@ -251,7 +258,8 @@ fn write_rows(
 }
 
 /// The one spelling of a message of an answer to a Get that has these entries, or want of memory. Each instance number in
-/// them is one of `i`.
+/// them is one of `i`. What is written has no fault, and is read as these entries again: each with its instance's name,
+/// its texts in the printed forms, and its statuses.
 #[tactic(auto, unfolding(crate::specs::Rows::rows_bytes))]
 pub fn encode_get_response(
     alloc: Global,
@@ -260,9 +268,11 @@ pub fn encode_get_response(
     rows: &[Row],
 ) -> Result<Vec<u8>, AllocError>
     requires { All (IsRowNamed (length i.now)) rows.now }
-    ensures { IfOk result (λ bytes. bytes.items ≡ rows_bytes n.now i.now rows.now) }
+    ensures bytes { IfOk result (λ bytes. bytes.items ≡ rows_bytes n.now i.now rows.now) }
+    ensures again { IfOk result (λ bytes. (fault_of n.now message.GetResponse bytes.items ≡ None) × (get_response n.now bytes.items ≡ record { rows = map (row_sent n.now i.now) rows.now })) }
 {
     let mut out = Vec::new(alloc);
     write_rows(alloc, n, i, rows, &mut out)?;
+    n.all_are_valid();
     Ok(out)
 }
