@@ -13,7 +13,7 @@ use Rattle.table_model.specs.Sessions.{deletes}
 use Rattle.session_params.specs.Rows.{is_entered, params_in}
 use Rattle.rib_core.specs.Core.{Core}
 
--- the session is the primary, and its entries go with it
+-- the session is the primary, and the whole table goes with it
 abbrev pub purges_in : Core → ℕ → Bool
 purges_in core session = is_it core.poll.primary session && deletes (params_in session core.seats)
 

@@ -239,7 +239,7 @@ impl RibCore {
         Reply::Left
     }
 
-    // Whether the session is the primary, and its entries go with it.
+    // Whether the session is the primary, and the whole table goes with it.
     fn purges(&self, session: u64) -> bool
         ensures { result ≡ purges_in self.now session }
     {

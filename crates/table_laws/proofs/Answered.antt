@@ -15,13 +15,13 @@ use Rattle.table_model.specs.Legal.{IsLawful}
 use Rattle.table_model.specs.Reply.{reply_to, is_halted, is_gone}
 use Rattle.table_model.specs.Results.{results, result_by, wanted_by, failure, taken, batch, outstanding, is_awaited}
 use Rattle.table_laws.proofs.Ascending.{number, is_from, made_of, ascend}
-use Rattle.table_laws.proofs.Turns.{Each, Pairs, each_weaken, each_all, Before, ascending_pairs, number_same, apart, Taken, Said, slot_at}
+use Rattle.table_laws.proofs.Turns.{Each, Pairs, each_of, each_weaken, each_all, Before, ascending_pairs, number_same, apart, Taken, Said, slot_at}
 use Rattle.table_laws.proofs.InTurn.{WaitAhead, outcome_next, undone_turn, says, next_ahead, wait_ahead, from_le}
 use Rattle.table_laws.proofs.Collected.{take_again, counted}
 
 -- Counts.
 
-abbrev tally : {X : Type 0} → (X → Bool) → List X → ℕ
+abbrev pub tally : {X : Type 0} → (X → Bool) → List X → ℕ
 tally p [] = 0
 tally p (x ∷ xs) = cond (p x) (1 + tally p xs) (tally p xs)
 
@@ -45,10 +45,6 @@ abbrev awaits : ℕ → List Event → Task → Bool
 awaits session past t = wanted_by session t && is_undone (outcome_of past (number t))
 
 -- What an event brings, and what the session still waits for after it.
-
-each_of : (P : Task → Type 0) → ((t : Task) → P t) → (ts : List Task) → Each P ts
-each_of P h [] = tt
-each_of P h (t ∷ ts) = (h t, each_of P h ts)
 
 beside_count : (c : Bool) (k m n : ℕ) → k + n ≡ m → k + cond c (1 + n) n ≡ cond c (1 + m) m
 beside_count true k m n same = omega arith

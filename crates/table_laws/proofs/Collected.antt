@@ -39,22 +39,22 @@ one_more before all next more n k so_far within many which =
     )
 
 -- a reply hands the session the next of its results
-record Told (past : List Event) (session : ℕ) (r : Reply) : Type 0 where
+record IsBatch (past : List Event) (session : ℕ) (r : Reply) : Type 0 where
   pub how_many : batch_length r ≡ length (batch_in r)
   pub which : batch_in r ≡ take (length (batch_in r)) (drop (taken past session) (results past session))
 
-told_of : (past : List Event) (session : ℕ) (halted gone : Bool) → Told past session (cond halted reply.Stopped (cond gone reply.Gone (reply.Collected (batch past session) (outstanding past session))))
+batch_of : (past : List Event) (session : ℕ) (halted gone : Bool) → IsBatch past session (cond halted reply.Stopped (cond gone reply.Gone (reply.Collected (batch past session) (outstanding past session))))
 unfolding batch
-told_of past session true gone = record { how_many = refl; which = refl }
-told_of past session false true = record { how_many = refl; which = refl }
-told_of past session false false = record { how_many = refl; which = sym (take_again 256 (drop (taken past session) (results past session))) }
+batch_of past session true gone = record { how_many = refl; which = refl }
+batch_of past session false true = record { how_many = refl; which = refl }
+batch_of past session false false = record { how_many = refl; which = sym (take_again 256 (drop (taken past session) (results past session))) }
 
 -- and so does an event
 record Hands (past : List Event) (session : ℕ) (e : Event) : Type 0 where
   pub how_many : collected_by session e ≡ length (handed_by session e)
   pub which : handed_by session e ≡ take (length (handed_by session e)) (drop (taken past session) (results past session))
 
-of_asker : (past : List Event) (session asker : ℕ) (r : Reply) (b : Bool) → (asker == session) ≡ b → (b ≡ true → Told past session r) → Hands past session (event (Collect asker) r)
+of_asker : (past : List Event) (session asker : ℕ) (r : Reply) (b : Bool) → (asker == session) ≡ b → (b ≡ true → IsBatch past session r) → Hands past session (event (Collect asker) r)
 of_asker past session asker r false is told = record { how_many = rw is refl; which = rw is refl }
 of_asker past session asker r true is told = record { how_many = rw is (told refl).how_many; which = rw is (told refl).which }
 
@@ -65,7 +65,7 @@ hands : (config : Config) (past : List Event) (session : ℕ) (command : Command
 unfolding reply_to
 hands config past session (Collect asker) r told =
     of_asker past session asker r (asker == session) refl
-    (λ is. let P : ℕ → Type 0 = λ s. Told past s r in subst P (same_number asker session is) (let Q : Reply → Type 0 = λ x. Told past asker x in subst Q (sym told) (told_of past asker (is_halted past) (is_gone past (Collect asker)))))
+    (λ is. let P : ℕ → Type 0 = λ s. IsBatch past s r in subst P (same_number asker session is) (let Q : Reply → Type 0 = λ x. IsBatch past asker x in subst Q (sym told) (batch_of past asker (is_halted past) (is_gone past (Collect asker)))))
 hands config past session Begin r told = record { how_many = refl; which = refl }
 hands config past session (SetParams x0 x1) r told = record { how_many = refl; which = refl }
 hands config past session (Announce x0 x1) r told = record { how_many = refl; which = refl }

@@ -12,7 +12,7 @@ use Rattle.table_model.specs.declared.reply.Reply.{Reply}
 use Rattle.table_model.specs.declared.reply.Reply.TheVariants as reply
 use Rattle.table_model.specs.declared.results.FibResult.{FibResult}
 use Rattle.table_model.specs.Event.{Event, is_reported}
-use Rattle.table_model.specs.Jobs.{Task, Turn, Outcome, Programmed, Faulted, Passed, tasks, turn_of, turn_taken, turned, reported, outcome_of, number_eq, is_undone, skip_reason}
+use Rattle.table_model.specs.Jobs.{Task, Turn, Outcome, Programmed, Faulted, PassedOver, tasks, turn_of, turn_taken, turned, reported, outcome_of, number_eq, is_undone, skip_reason}
 use Rattle.table_model.specs.Laws.{event, completes, CompletesOnce, ProgrammedWasReported}
 use Rattle.table_model.specs.Legal.{IsLawful}
 use Rattle.table_model.specs.Results.{result_by, wanted_by, failure}
@@ -99,7 +99,7 @@ not_taken session made now result (reply.Flushed x0) told fine = cc
 not_taken session made now result (reply.FlushRefused x0) told fine = cc
 not_taken session made now result (reply.Selected x0) told fine = cc
 not_taken session made now result (reply.Given job) told fine = cc
-not_taken session made now result (reply.Skipped number) told fine = let came = comes session made (record { number = number; outcome = Passed; now = now }) result told in let no_way : Some (skip_reason came.task.job.work) ≡ None = ap (λ (x : FibResult). x.failed) came.is ∙ fine in cc
+not_taken session made now result (reply.Skipped number) told fine = let came = comes session made (record { number = number; outcome = PassedOver; now = now }) result told in let no_way : Some (skip_reason came.task.job.work) ≡ None = ap (λ (x : FibResult). x.failed) came.is ∙ fine in cc
 not_taken session made now result reply.Idle told fine = cc
 not_taken session made now result reply.HaltSeen told fine = cc
 not_taken session made now result reply.Reported told fine = cc

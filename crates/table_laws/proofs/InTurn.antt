@@ -5,7 +5,7 @@ use Rattle.std.proofs.lemmas.Bool.Decides.{nat_tests}
 use Rattle.table_model.specs.declared.command.Config.{Config}
 use Rattle.table_model.specs.declared.job.JobNumber.{JobNumber}
 use Rattle.table_model.specs.Event.{Event}
-use Rattle.table_model.specs.Jobs.{Task, Turn, Outcome, Waiting, Out, Programmed, Faulted, Passed, tasks, tasks_by, turn_of, turned, outcome_of, number_eq, number_lt, is_undone, is_out, is_waiting, conflict}
+use Rattle.table_model.specs.Jobs.{Task, Turn, Outcome, Waiting, Out, Programmed, Faulted, PassedOver, tasks, tasks_by, turn_of, turned, outcome_of, number_eq, number_lt, is_undone, is_out, is_waiting, conflict}
 use Rattle.table_model.specs.Legal.{IsLawful}
 use Rattle.table_model.proofs.Tests.{and_left}
 use Rattle.table_laws.proofs.Ascending.{number, is_older, is_from, made_of, ascend}
@@ -25,7 +25,7 @@ undone_turn past turn (inl taken) = waits (outcome_of past turn.number) taken.wa
     waits Out h = refl
     waits Programmed h = cc
     waits Faulted h = cc
-    waits Passed h = cc
+    waits PassedOver h = cc
 undone_turn past turn (inr said) = out (outcome_of past turn.number) said.was_out
   where
     out : (o : Outcome) → is_out o ≡ true → is_undone o ≡ true
@@ -33,7 +33,7 @@ undone_turn past turn (inr said) = out (outcome_of past turn.number) said.was_ou
     out Out h = refl
     out Programmed h = cc
     out Faulted h = cc
-    out Passed h = cc
+    out PassedOver h = cc
 
 -- Jobs to come wait.
 
@@ -91,12 +91,12 @@ first_test true true false h p q = cc
 first_test true false c h p q = cc
 first_test false b c h p q = refl
 
-out_not_waits : (o : Outcome) → is_out o ≡ true → is_waiting o ≡ false
+pub out_not_waits : (o : Outcome) → is_out o ≡ true → is_waiting o ≡ false
 out_not_waits Waiting h = cc
 out_not_waits Out h = refl
 out_not_waits Programmed h = refl
 out_not_waits Faulted h = refl
-out_not_waits Passed h = refl
+out_not_waits PassedOver h = refl
 
 module _ (e : Event) (past : List Event) where
   -- what the first of two jobs has to say, where the event is about the second

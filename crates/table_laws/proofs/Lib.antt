@@ -11,3 +11,6 @@ pub mod Reports
 pub mod Completions
 pub mod Collected
 pub mod Answered
+mod FibClosed
+mod Boards
+mod Handed

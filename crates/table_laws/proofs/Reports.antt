@@ -11,7 +11,7 @@ use Rattle.table_model.specs.declared.job.Work.{Work}
 use Rattle.table_model.specs.declared.job.Work.TheVariants.{Install, Remove}
 use Rattle.table_model.specs.declared.reply.Reply.TheVariants as reply
 use Rattle.table_model.specs.Event.{Event}
-use Rattle.table_model.specs.Jobs.{Task, Turn, Slot, Outcome, Waiting, Out, Programmed, Faulted, Passed, tasks, tasks_by, slots, turn_of, turned, outcome_of, number_eq, is_undone, is_out, is_waiting, is_programmed, conflict, effect, work_key, touches, fib, table_of}
+use Rattle.table_model.specs.Jobs.{Task, Turn, Slot, Outcome, Waiting, Out, Programmed, Faulted, PassedOver, tasks, tasks_by, slots, turn_of, turned, outcome_of, number_eq, is_undone, is_out, is_waiting, is_programmed, conflict, effect, work_key, touches, fib, table_of}
 use Rattle.table_model.specs.Laws.{event, left_by, effect_of, programmed_by, fib_by_reports, ReportsGiveFib, ProgrammedIsThere, ConflictsInOrder, OutAreApart}
 use Rattle.table_model.specs.Legal.{IsLawful}
 use Rattle.table_model.specs.Table.{in_order, lookup}
@@ -20,15 +20,15 @@ use Rattle.table_model.proofs.Effects as effects
 use Rattle.table_model.proofs.TableLemmas.{in_order_empty}
 use Rattle.aft_entries.specs.References.{is_among}
 use Rattle.table_laws.proofs.Ascending.{number, is_from, made_of, ascend}
-use Rattle.table_laws.proofs.Turns.{Each, Pairs, each_weaken, each_all, Before, ascending_pairs, number_same, number_symm, apart, Taken, Said, slot_at}
-use Rattle.table_laws.proofs.InTurn.{Waits, WaitAhead, outcome_next, undone_turn, says, in_turn, next_ahead, wait_ahead, from_le}
+use Rattle.table_laws.proofs.Turns.{Each, Pairs, each_of, each_weaken, each_all, Before, ascending_pairs, number_same, number_symm, apart, Taken, Said, slot_at}
+use Rattle.table_laws.proofs.InTurn.{Waits, WaitAhead, outcome_next, undone_turn, says, in_turn, next_ahead, wait_ahead, from_le, out_not_waits}
 
 -- Programmed jobs, one after the other.
 
-abbrev programs : (JobNumber → Outcome) → List Entry → Task → List Entry
+abbrev pub programs : (JobNumber → Outcome) → List Entry → Task → List Entry
 programs f table t = cond (is_programmed (f (number t))) (effect table t.job.work) table
 
-abbrev done_fold : (JobNumber → Outcome) → List Entry → List Task → List Entry
+abbrev pub done_fold : (JobNumber → Outcome) → List Entry → List Task → List Entry
 done_fold f table [] = table
 done_fold f table (t ∷ ts) = done_fold f (programs f table t) ts
 
@@ -45,7 +45,7 @@ fold_is past table (t ∷ ts) = by_done (is_programmed (outcome_of past (number 
     by_done true h k = h
     by_done false h k = k
 
-fib_is : (past : List Event) → fib past ≡ done_fold (outcome_of past) [] (tasks past)
+pub fib_is : (past : List Event) → fib past ≡ done_fold (outcome_of past) [] (tasks past)
 unfolding fib table_of slots
 fib_is past = fold_is past [] (tasks past)
 
@@ -102,25 +102,21 @@ programmed_not_waiting Waiting h = cc
 programmed_not_waiting Out h = refl
 programmed_not_waiting Programmed h = refl
 programmed_not_waiting Faulted h = refl
-programmed_not_waiting Passed h = refl
+programmed_not_waiting PassedOver h = refl
 
-out_undone : (o : Outcome) → is_out o ≡ true → is_undone o ≡ true
+pub out_undone : (o : Outcome) → is_out o ≡ true → is_undone o ≡ true
 out_undone Waiting h = cc
 out_undone Out h = refl
 out_undone Programmed h = cc
 out_undone Faulted h = cc
-out_undone Passed h = cc
+out_undone PassedOver h = cc
 
 undone_not_programmed : (o : Outcome) → is_undone o ≡ true → is_programmed o ≡ false
 undone_not_programmed Waiting h = refl
 undone_not_programmed Out h = refl
 undone_not_programmed Programmed h = cc
 undone_not_programmed Faulted h = cc
-undone_not_programmed Passed h = cc
-
-each_of : (P : Task → Type 0) → ((t : Task) → P t) → (ts : List Task) → Each P ts
-each_of P h [] = tt
-each_of P h (t ∷ ts) = (h t, each_of P h ts)
+undone_not_programmed PassedOver h = cc
 
 -- One event.
 
@@ -251,13 +247,6 @@ unfolding slots
 conflicts_in_order config past lawful before middle after a b is meets moved =
     let two = split_pairs past (Waits past) before middle after a b (tasks past) is (in_turn config past lawful) in
     ap is_undone two.1 ∙ two.0 meets (sym (ap is_waiting two.2) ∙ moved)
-
-out_not_waits : (o : Outcome) → is_out o ≡ true → is_waiting o ≡ false
-out_not_waits Waiting h = cc
-out_not_waits Out h = refl
-out_not_waits Programmed h = refl
-out_not_waits Faulted h = refl
-out_not_waits Passed h = refl
 
 pub out_apart : (config : Config) → OutAreApart config
 out_apart config past lawful before middle after a b is one two = by_conflict (conflict a.task b.task) refl

@@ -12,7 +12,7 @@ use Rattle.table_model.specs.declared.job.Verdict.TheVariants as verdict
 use Rattle.table_model.specs.declared.reply.Reply.{Reply}
 use Rattle.table_model.specs.declared.reply.Reply.TheVariants as reply
 use Rattle.table_model.specs.Event.{Event}
-use Rattle.table_model.specs.Jobs.{Task, Turn, Slot, Outcome, Out, Passed, tasks, slots, turn_of, turn_taken, reported, outcome_of, number_eq, number_lt, is_undone, is_out, is_waiting, is_programmed, is_blocked, on_shard, next_task, conflict, is_clear, is_skipped, fib}
+use Rattle.table_model.specs.Jobs.{Task, Turn, Slot, Outcome, Out, PassedOver, tasks, slots, turn_of, turn_taken, reported, outcome_of, number_eq, number_lt, is_undone, is_out, is_waiting, is_programmed, is_blocked, on_shard, next_task, conflict, is_clear, is_skipped, fib}
 use Rattle.table_model.specs.Laws.{event, is_ascending}
 use Rattle.table_model.specs.Reply.{reply_to, reply_take, take_reply, is_halted}
 use Rattle.table_model.proofs.Tests.{and_left, and_right}
@@ -27,6 +27,10 @@ Each P (x ∷ xs) = P x × Each P xs
 abbrev pub Pairs : (Task → Task → Type 0) → List Task → Type 0
 Pairs R [] = Unit {0}
 Pairs R (x ∷ xs) = Each (R x) xs × Pairs R xs
+
+pub each_of : (P : Task → Type 0) → ((t : Task) → P t) → (ts : List Task) → Each P ts
+each_of P h [] = tt
+each_of P h (t ∷ ts) = (h t, each_of P h ts)
 
 pub each_weaken : (P Q : Task → Type 0) (xs : List Task) → ((x : Task) → P x → Q x) → Each P xs → Each Q xs
 each_weaken P Q [] step h = tt
@@ -103,7 +107,7 @@ apart x y n lt p q =
 abbrev pub slot_at : List Event → Task → Slot
 slot_at past task = record { task = task; outcome = outcome_of past (number task) }
 
--- a worker took it: it waited, and no earlier undone job was in conflict
+-- a worker took it: it waited, no earlier undone job was in conflict, and it is out only where it can be done
 pub record Taken (past : List Event) (turn : Turn) : Type 0 where
   pub task : Task
   pub of_it : turn.number ≡ number task
@@ -112,6 +116,7 @@ pub record Taken (past : List Event) (turn : Turn) : Type 0 where
   pub free : Each (λ other. is_undone (outcome_of past (number other)) && number_lt (number other) (number task) && conflict other task ≡ false) (tasks past)
   pub only : Each (λ other. number_eq (number task) (number other) ≡ true → other ≡ task) (tasks past)
   pub not_done : is_programmed turn.outcome ≡ false
+  pub fits : is_out turn.outcome ≡ true → is_skipped (fib past) task.job.work ≡ false
 
 -- or it was out, and its device was reported
 pub record Said (past : List Event) (turn : Turn) : Type 0 where
@@ -170,7 +175,7 @@ module _ (config : Config) (past : List Event) where
       idle : (b : Bool) → turn_taken now (cond b reply.HaltSeen reply.Idle) ≡ Some turn → ⊥
       idle true h = cc
       idle false h = cc
-  taken_by worker now turn (Some slot) is told = made (is_skipped (fib past) slot.task.job.work) told
+  taken_by worker now turn (Some slot) is told = made (is_skipped (fib past) slot.task.job.work) refl told
     where
       here : IsFound past (λ s. on_shard config.workers worker s.task && is_waiting s.outcome && not (is_blocked (slots past) s.task)) slot (tasks past)
       here = found past (λ s. on_shard config.workers worker s.task && is_waiting s.outcome && not (is_blocked (slots past) s.task)) slot (tasks past) (ascend past) (ap (find (λ s. on_shard config.workers worker s.task && is_waiting s.outcome && not (is_blocked (slots past) s.task))) (sym (slots_are past)) ∙ is)
@@ -187,8 +192,8 @@ module _ (config : Config) (past : List Event) where
           (ap (λ board. not (list_any (λ s. is_undone s.outcome && number_lt s.task.job.number (number slot.task) && conflict s.task slot.task) board)) (sym (slots_are past))
           ∙ and_right (on_shard config.workers worker slot.task && is_waiting slot.outcome) (not (is_blocked (slots past) slot.task)) here.passes)
 
-      with_outcome : (outcome : Outcome) → is_programmed outcome ≡ false → Taken past (record { number = slot.task.job.number; outcome = outcome; now = now })
-      with_outcome outcome left = record {
+      with_outcome : (outcome : Outcome) → is_programmed outcome ≡ false → (is_out outcome ≡ true → is_skipped (fib past) slot.task.job.work ≡ false) → Taken past (record { number = slot.task.job.number; outcome = outcome; now = now })
+      with_outcome outcome left fits = record {
         task = slot.task;
         of_it = refl;
         waited = waits;
@@ -196,11 +201,12 @@ module _ (config : Config) (past : List Event) where
         free = unblocked;
         only = here.only;
         not_done = left;
+        fits = fits;
       }
 
-      made : (b : Bool) → turn_taken now (cond b (reply.Skipped slot.task.job.number) (reply.Given slot.task.job)) ≡ Some turn → Taken past turn
-      made true h = let one : record { number = slot.task.job.number; outcome = Passed; now = now } ≡ turn = cc in rw (← one) (with_outcome Passed refl)
-      made false h = let one : record { number = slot.task.job.number; outcome = Out; now = now } ≡ turn = cc in rw (← one) (with_outcome Out refl)
+      made : (b : Bool) → is_skipped (fib past) slot.task.job.work ≡ b → turn_taken now (cond b (reply.Skipped slot.task.job.number) (reply.Given slot.task.job)) ≡ Some turn → Taken past turn
+      made true skipped h = let one : record { number = slot.task.job.number; outcome = PassedOver; now = now } ≡ turn = cc in rw (← one) (with_outcome PassedOver refl (λ out. cc))
+      made false fine h = let one : record { number = slot.task.job.number; outcome = Out; now = now } ≡ turn = cc in rw (← one) (with_outcome Out refl (λ out. fine))
 
   -- what is reported
   said_by : (job : JobNumber) (said : Verdict) (now : ℤ) (turn : Turn) (b : Bool) → is_out (outcome_of past job) ≡ b

@@ -1,3 +1,4 @@
-pub mod Played
 pub mod Samples
 pub mod Examples
+pub mod Boards
+pub mod Handed

@@ -1,6 +1,6 @@
 //! Small histories, computed by the definitions.
 ghost use Rattle.table_laws.specs.Examples as example;
-ghost use Rattle.table_laws.specs.Played.{IsPlayed};
+ghost use Rattle.table_model.specs.Played.{IsPlayed};
 ghost use Rattle.table_laws.specs.Samples.{setup};
 
 /// Of two sessions that announce the same highest id, the later one is the primary.

@@ -5,8 +5,10 @@ ghost use Rattle.aft_entries.specs.Order.{key_eq};
 ghost use Rattle.table_model.specs.declared.job.Work.{Work};
 ghost use Rattle.table_model.specs.Jobs.{effect, work_key};
 ghost use Rattle.table_model.specs.declared.command.Config.{Config};
-ghost use Rattle.table_model.specs.Laws.{AllAnswered, AnsweredOnce, JobsAscend, CompletesOnce, ConflictsInOrder, OutAreApart, ProgrammedWasReported, ReportsGiveFib, ProgrammedIsThere};
+ghost use Rattle.table_model.specs.Laws.{AllAnswered, AnsweredOnce, JobsAscend, CompletesOnce, ConflictsInOrder, OutAreApart, ProgrammedWasReported, ReportsGiveFib, ProgrammedIsThere, FibIsClosed};
 ghost use Rattle.table_model.specs.Table.{in_order};
+ghost use Rattle.table_laws.specs.Boards.{BoardsTell};
+ghost use Rattle.table_laws.specs.Handed.{HandedWasReported};
 
 /// Jobs stand in the order of their numbers, and no number names two.
 pub fn jobs_ascend()
@@ -33,6 +35,12 @@ pub fn programmed_was_reported()
     ensures { ProgrammedWasReported }
 {}
 
+/// Each result without a failure that a Collect handed out: a worker reported, at its moment, that the device programmed
+/// a job of the session with its id.
+pub fn handed_was_reported()
+    ensures { (config : Config) → HandedWasReported config }
+{}
+
 /// What a session's Collects answer are the first of its results in the order of completion, each once.
 pub fn results_are_answered_once()
     ensures { (config : Config) → AnsweredOnce config }
@@ -53,6 +61,17 @@ pub fn reports_give_fib()
 /// Right after the report that a job is programmed, the forwarding table has its entry, or no longer its key.
 pub fn programmed_is_there()
     ensures { (config : Config) → ProgrammedIsThere config }
+{}
+
+/// At each event every entry's references are in the forwarding table.
+pub fn fib_is_closed()
+    ensures { (config : Config) → FibIsClosed config }
+{}
+
+/// The undone jobs and the results that are due tell the next job of a worker, whether it has one left, what a live
+/// session collects next, and what is outstanding then.
+pub fn boards_tell()
+    ensures { (config : Config) → BoardsTell config }
 {}
 
 /// A job that is done late does what it would have done in its place, where no later one has its key.

@@ -7,7 +7,7 @@ pub record Completed : Type 0 where
   pub failed : Option ℕ
   pub now : ℤ
 
--- 20 the device failed, 21 a reference wasn't there, 22 the key was in use
-abbrev pub is_failure : Option ℕ → Bool
-is_failure None = true
-is_failure (Some reason) = nat_le 20 reason && nat_le reason 22
+-- nothing failed, or for a reason that there is: 20 the device failed, 21 a reference wasn't there, 22 the key was in use
+abbrev pub is_none_or_reason : Option ℕ → Bool
+is_none_or_reason None = true
+is_none_or_reason (Some reason) = nat_le 20 reason && nat_le reason 22

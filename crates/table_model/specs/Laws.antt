@@ -43,7 +43,7 @@ RibIsInOrder config = (past : List Event) → IsLawful config past → in_order 
 abbrev pub ChainsAreShort : Config → Type 0
 ChainsAreShort config = (past : List Event) → IsLawful config past → is_shallow (rib past) ≡ true
 
--- what may change the table: an operation of the then primary under the highest id, a Flush that is allowed, or the end of the primary's session where its entries go with it
+-- what may change the table: an operation of the then primary under the highest id, a Flush that is allowed, or the end of the primary's session where the whole table goes with it
 abbrev pub MayChange : List Event → Event → Type 0
 MayChange past e = elim e.command [
   | Operate session operation now ↦ (e.reply ≡ reply.RibDone) × (is_primary past session ≡ true) × (operation.election ≡ Some (highest past))
@@ -62,14 +62,14 @@ RibChangesByThese config = (past : List Event) (e : Event) → IsLawful config (
 abbrev pub HighestNeverFalls : Type 0
 HighestNeverFalls = (past : List Event) (e : Event) → highest past ≤ highest (e ∷ past)
 
--- who announces an id that is at least the highest is the primary from then on, so among equal ids the latest announcer is
+-- right after it, who announced an id that is at least the highest is the primary: among equal ids the latest announcer
 abbrev pub LatestIsPrimary : Config → Type 0
 LatestIsPrimary config =
     (past : List Event) (session id told : ℕ) → IsLawful config (event (Announce session id) (reply.Announced told) ∷ past)
     → highest past ≤ id
     → (told ≡ id) × (primary (event (Announce session id) (reply.Announced told) ∷ past) ≡ Some session)
 
--- a primary that announces a lower id is primary no more
+-- right after it, who announced a lower id isn't the primary, also if it was
 abbrev pub LowerIsNotPrimary : Config → Type 0
 LowerIsNotPrimary config =
     (past : List Event) (session id told : ℕ) → IsLawful config (event (Announce session id) (reply.Announced told) ∷ past)
@@ -130,7 +130,7 @@ CompletesOnce config =
 
 -- The forwarding table.
 
--- the job that an event says is programmed
+-- the job that an event says is programmed; in a lawful history it is found
 abbrev pub programmed_by : List Event → Event → Option Task
 programmed_by past e =
     option_and_then
@@ -150,10 +150,11 @@ fib_by_reports (e ∷ past) = effect_of (programmed_by past e) (fib_by_reports p
 abbrev pub ReportsGiveFib : Config → Type 0
 ReportsGiveFib config = (past : List Event) → IsLawful config past → fib_by_reports past ≡ fib past
 
+-- each entry's references are in the forwarding table too
 abbrev pub FibIsClosed : Config → Type 0
 FibIsClosed config = (past : List Event) → IsLawful config past → is_closed (fib past) ≡ true
 
--- a job that is reported as programmed stands in the forwarding table
+-- right after the report that a job is programmed, the forwarding table has its entry, or no longer its key
 abbrev pub ProgrammedIsThere : Config → Type 0
 ProgrammedIsThere config =
     (past : List Event) (number : JobNumber) (now : ℤ) (task : Task)

@@ -5,19 +5,19 @@ use Rattle.table_model.specs.declared.results.FibResult.{FibResult}
 use Rattle.table_model.specs.declared.reply.Reply.{Reply}
 use Rattle.table_model.specs.declared.reply.Reply.TheVariants.{Collected}
 use Rattle.table_model.specs.Event.{Event}
-use Rattle.table_model.specs.Jobs.{Task, Turn, Slot, Outcome, Faulted, Passed, tasks, slots, turn_of, number_eq, is_undone, skip_reason}
+use Rattle.table_model.specs.Jobs.{Task, Turn, Slot, Outcome, Faulted, PassedOver, tasks, slots, turn_of, number_eq, is_undone, skip_reason}
 
 -- whose results the session collects
 abbrev pub wanted_by : ℕ → Task → Bool
 wanted_by session task = task.wants && elim task.owner [ None ↦ false | Some owner ↦ owner == session ]
 
--- why the job failed, if it did
+-- why the job failed, if it did; asked only of jobs that are done
 abbrev pub failure : Task → Outcome → Option ℕ
 failure task Faulted = Some 20
-failure task Passed = Some (skip_reason task.job.work)
+failure task PassedOver = Some (skip_reason task.job.work)
 failure task _ = None
 
--- the result that an event brings the session
+-- the result that an event brings the session. In a lawful history the turn's job is found: it was made before
 abbrev pub result_by : ℕ → List Task → Option Turn → Option FibResult
 result_by session made None = None
 result_by session made (Some turn) =

@@ -18,7 +18,7 @@ pub struct FibResult {
 
 impl Model for FibResult {
     ghost use Rattle.std.specs.Prelude.{IsTrue};
-    ghost use Rattle.table_model.specs.Completed.{Completed, is_failure};
+    ghost use Rattle.table_model.specs.Completed.{Completed, is_none_or_reason};
 
     ghost Value = { Completed };
 
@@ -26,7 +26,7 @@ impl Model for FibResult {
 
     ghost inverse = { λ c. record { id = c.id; failed = c.failed; now = c.now } };
 
-    ghost invariant = { λ r. IsTrue (is_failure r.failed) };
+    ghost invariant = { λ r. IsTrue (is_none_or_reason r.failed) };
 }
 
 /// Results that a session collects: at most 256. To make one takes no memory, since its places move from the

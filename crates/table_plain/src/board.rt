@@ -22,7 +22,7 @@ pub(crate) enum Fate {
     Out,
     Programmed,
     Faulted,
-    Passed,
+    PassedOver,
 }
 
 /// A job that an event is about, and what becomes of it.
@@ -123,7 +123,7 @@ fn turn_taken(now: i64, reply: &Reply) -> Option<Turn>
         }),
         Reply::Skipped(number) => Some(Turn {
             number: *number,
-            outcome: Fate::Passed,
+            outcome: Fate::PassedOver,
             now,
         }),
         _ => None,

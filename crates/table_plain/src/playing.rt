@@ -1,6 +1,6 @@
 //! Histories made by answering commands.
 ghost use Rattle.std.specs.Prelude.{◌≡◌, IfOk};
-ghost use Rattle.table_plain.specs.Played.{played};
+ghost use Rattle.table_model.specs.Played.{played};
 
 use crate::event::Event;
 use crate::reply::reply_of;
@@ -34,7 +34,6 @@ impl History {
 
 /// The history that the server with one thread makes of the commands, from nothing. It fails where there is no
 /// memory for the definitions' lists.
-#[tactic(auto, unfolding(crate::specs::Played::played))]
 pub fn play(alloc: Global, config: Config, commands: Vec<Command>) -> Result<History, AllocError>
     ensures { IfOk result (λ made. made ≡ played config commands.items) }
 {

@@ -27,7 +27,7 @@ fn failure(task: &Task, outcome: Fate) -> Option<u8>
 {
     match outcome {
         Fate::Faulted => Some(20),
-        Fate::Passed => Some(skip_reason(&task.job.work)),
+        Fate::PassedOver => Some(skip_reason(&task.job.work)),
         _ => None,
     }
 }

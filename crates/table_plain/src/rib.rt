@@ -12,7 +12,7 @@ use aft_entries::{Entry, Reason};
 use std::alloc::{AllocError, Global};
 use table_model::{Command, Config, Operation};
 
-// Whether the primary leaves, and its entries go with it.
+// Whether the primary leaves, and the whole table goes with it.
 fn purges(alloc: Global, past: &[Event], session: u64) -> Result<bool, AllocError>
     ensures { IfOk result (λ go. go ≡ history.purges past.now session) }
 {

@@ -175,7 +175,7 @@ pub(crate) fn differing(
     )
 }
 
-/// Whether the session's entries go with it.
+/// Whether the whole table goes when the session ends as primary.
 pub(crate) fn deletes(params: Option<Params>) -> bool
     ensures { result ≡ history.deletes params }
 {

@@ -1,6 +1,6 @@
 use Rattle.std.proofs.Common.{◌≡◌, []}
 use Rattle.std.specs.List.{fold}
-use Rattle.table_plain.specs.Played.{answered}
+use Rattle.table_model.specs.Played.{answered}
 use Rattle.table_plain.proofs.playing.play.Given as goal
 
 -- the history of the commands so far

@@ -1,4 +1,4 @@
--- Examples: commands, the oldest first, each with the reply that it gets where nothing was before the first.
+-- Commands that are answered one after another, the oldest first.
 use Rattle.std.specs.Prelude.{◌≡◌, List, [], ◌∷◌, map, fold, reverse}
 use Rattle.table_model.specs.declared.command.Command.{Command}
 use Rattle.table_model.specs.declared.command.Config.{Config}
@@ -10,9 +10,13 @@ use Rattle.table_model.specs.Reply.{reply_to}
 abbrev pub answered : Config → List Event → Command → List Event
 answered config past command = record { command = command; reply = reply_to config past command } ∷ past
 
--- the server's replies to commands, from nothing
+-- the history that the commands make from nothing, the newest event first
+abbrev pub played : Config → List Command → List Event
+played config commands = fold (answered config) [] commands
+
+-- the server's replies to them
 abbrev pub replies : Config → List Command → List Reply
-replies config commands = reverse (map (λ e. e.reply) (fold (answered config) [] commands))
+replies config commands = reverse (map (λ e. e.reply) (played config commands))
 
 -- the replies are those that are told
 abbrev pub IsPlayed : Config → List Event → Type 0

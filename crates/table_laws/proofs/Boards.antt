@@ -1,0 +1,159 @@
+-- What a board keeps is enough for what it tells: jobs that are done, and wishes of sessions that left, count for nothing.
+use Rattle.std.proofs.Common.{◌≡◌, ℕ, ◌+◌, ◌-◌, Bool, true, false, List, [], ◌∷◌, length, map, take, drop, Some, None, Option, refl, sym, ap, ◌∙◌, arith}
+use Rattle.std.specs.Prelude.{not, ◌&&◌, ◌||◌, ◌==◌, cond, filter, find, count_by, option_map}
+use Rattle.std.specs.List.{list_any}
+use Rattle.std.proofs.lemmas.Bool.Decides.{nat_tests}
+use Rattle.std.proofs.lemmas.List.{length-take, length-drop}
+use Rattle.std.proofs.lemmas.List.Recursion.{is_count_by}
+use Rattle.table_model.specs.declared.command.Config.{Config}
+use Rattle.table_model.specs.declared.results.FibResult.{FibResult}
+use Rattle.table_model.specs.Event.{Event}
+use Rattle.table_model.specs.Jobs.{Slot, slots, is_undone, is_waiting, is_blocked, on_shard, next_task, is_clear, number_lt, conflict}
+use Rattle.table_model.specs.Ledger.{is_kept, undone_slots, is_owner_live, as_wanted, due_for, due_of}
+use Rattle.table_model.specs.Results.{results, taken, batch, outstanding, is_awaited}
+use Rattle.table_model.specs.Sessions.{is_live}
+use Rattle.table_model.proofs.Tests.{and_right}
+use Rattle.table_model.proofs.Undone.{next_undone, clear_undone}
+use Rattle.table_laws.specs.Boards.{BoardsTell}
+use Rattle.table_laws.proofs.Answered.{tally}
+
+module _ (f : Slot → Slot) (p q : Slot → Bool) (same : (x : Slot) → p (f x) ≡ q x) where
+  find_map : (xs : List Slot) → find p (map f xs) ≡ option_map f (find q xs)
+  find_map [] = refl
+  find_map (x ∷ xs) = ap (λ b. cond b (Some (f x)) (find p (map f xs))) (same x) ∙ by_test (q x) (find_map xs)
+    where
+      by_test : (b : Bool) → find p (map f xs) ≡ option_map f (find q xs) → cond b (Some (f x)) (find p (map f xs)) ≡ option_map f (cond b (Some x) (find q xs))
+      by_test true rest = refl
+      by_test false rest = rest
+
+  any_map : (xs : List Slot) → list_any p (map f xs) ≡ list_any q xs
+  any_map [] = refl
+  any_map (x ∷ xs) = ap (λ b. b || list_any p (map f xs)) (same x) ∙ ap (λ r. q x || r) (any_map xs)
+
+  tally_map : (xs : List Slot) → tally p (map f xs) ≡ tally q xs
+  tally_map [] = refl
+  tally_map (x ∷ xs) = ap (λ b. cond b (1 + tally p (map f xs)) (tally p (map f xs))) (same x) ∙ ap (λ m. cond (q x) (1 + m) m) (tally_map xs)
+
+-- what passes isn't filtered out
+tally_filter : (p q : Slot → Bool) → ((x : Slot) → p x ≡ true → q x ≡ true) → (xs : List Slot) → tally p (filter q xs) ≡ tally p xs
+tally_filter p q kept [] = refl
+tally_filter p q kept (x ∷ xs) = by_tests (p x) (q x) (kept x) refl (tally_filter p q kept xs)
+  where
+    by_tests : (a b : Bool) → (a ≡ true → b ≡ true) → p x ≡ a → tally p (filter q xs) ≡ tally p xs → tally p (cond b (x ∷ filter q xs) (filter q xs)) ≡ cond a (1 + tally p xs) (tally p xs)
+    by_tests true true h is rest = ap (λ c. cond c (1 + tally p (filter q xs)) (tally p (filter q xs))) is ∙ ap (λ m. 1 + m) rest
+    by_tests true false h is rest = let no_way : false ≡ true = h refl in cc
+    by_tests false true h is rest = ap (λ c. cond c (1 + tally p (filter q xs)) (tally p (filter q xs))) is ∙ rest
+    by_tests false false h is rest = rest
+
+counts : (p : Slot → Bool) (xs : List Slot) → tally p xs ≡ count_by p xs
+counts p xs = is_count_by (tally p) p refl (λ _ _. refl) xs
+
+-- The jobs.
+
+module _ (past : List Event) where
+  same_conflict : (a b : Slot) → conflict (as_wanted past a).task (as_wanted past b).task ≡ conflict a.task b.task
+  unfolding as_wanted conflict
+  same_conflict a b = refl
+
+  same_blocks : (slot other : Slot) → is_undone (as_wanted past other).outcome && number_lt (as_wanted past other).task.job.number (as_wanted past slot).task.job.number && conflict (as_wanted past other).task (as_wanted past slot).task
+      ≡ is_undone other.outcome && number_lt other.task.job.number slot.task.job.number && conflict other.task slot.task
+  unfolding as_wanted
+  same_blocks slot other = ap (λ c. is_undone other.outcome && number_lt other.task.job.number slot.task.job.number && c) (same_conflict other slot)
+
+  same_blocked : (board : List Slot) (slot : Slot) → is_blocked (map (as_wanted past) board) (as_wanted past slot).task ≡ is_blocked board slot.task
+  same_blocked board slot =
+      any_map (as_wanted past) (λ s. is_undone s.outcome && number_lt s.task.job.number (as_wanted past slot).task.job.number && conflict s.task (as_wanted past slot).task)
+      (λ s. is_undone s.outcome && number_lt s.task.job.number slot.task.job.number && conflict s.task slot.task) (same_blocks slot) board
+
+  same_waits : (workers worker : ℕ) (slot : Slot) → on_shard workers worker (as_wanted past slot).task && is_waiting (as_wanted past slot).outcome ≡ on_shard workers worker slot.task && is_waiting slot.outcome
+  unfolding as_wanted
+  same_waits workers worker slot = refl
+
+  same_next : (workers worker : ℕ) (board : List Slot) (slot : Slot)
+      → on_shard workers worker (as_wanted past slot).task && is_waiting (as_wanted past slot).outcome && not (is_blocked (map (as_wanted past) board) (as_wanted past slot).task)
+      ≡ on_shard workers worker slot.task && is_waiting slot.outcome && not (is_blocked board slot.task)
+  same_next workers worker board slot =
+      ap (λ b. on_shard workers worker (as_wanted past slot).task && is_waiting (as_wanted past slot).outcome && not b) (same_blocked board slot)
+      ∙ ap (λ b. b && not (is_blocked board slot.task)) (same_waits workers worker slot)
+
+  next_wanted : (workers worker : ℕ) (board : List Slot) → next_task workers (map (as_wanted past) board) worker ≡ option_map (as_wanted past) (next_task workers board worker)
+  unfolding next_task
+  next_wanted workers worker board =
+      find_map (as_wanted past) (λ s. on_shard workers worker s.task && is_waiting s.outcome && not (is_blocked (map (as_wanted past) board) s.task))
+      (λ s. on_shard workers worker s.task && is_waiting s.outcome && not (is_blocked board s.task)) (same_next workers worker board) board
+
+  same_clear : (workers worker : ℕ) (slot : Slot) → on_shard workers worker (as_wanted past slot).task && is_undone (as_wanted past slot).outcome ≡ on_shard workers worker slot.task && is_undone slot.outcome
+  unfolding as_wanted
+  same_clear workers worker slot = refl
+
+  clear_wanted : (workers worker : ℕ) (board : List Slot) → is_clear workers (map (as_wanted past) board) worker ≡ is_clear workers board worker
+  unfolding is_clear
+  clear_wanted workers worker board =
+      ap not (any_map (as_wanted past) (λ s. on_shard workers worker s.task && is_undone s.outcome) (λ s. on_shard workers worker s.task && is_undone s.outcome) (same_clear workers worker) board)
+
+  -- The results.
+
+  module _ (session : ℕ) (alive : is_live past session ≡ true) where
+    same_wish : (owner : Option ℕ) (wants undone : Bool) → wants && is_owner_live past owner && elim owner [ None ↦ false | Some other ↦ other == session ] && undone ≡ wants && elim owner [ None ↦ false | Some other ↦ other == session ] && undone
+    same_wish None true undone = refl
+    same_wish None false undone = refl
+    same_wish (Some other) false undone = refl
+    same_wish (Some other) true undone = by_owner (other == session) refl
+      where
+        by_owner : (b : Bool) → (other == session) ≡ b → is_live past other && b && undone ≡ b && undone
+        by_owner true is = let one : other ≡ session = grind (arith, nat_tests) in ap (λ a. a && true && undone) (ap (is_live past) one ∙ alive)
+        by_owner false is = elim (is_live past other) as (λ a. a && false && undone ≡ false) [ true ↦ refl | false ↦ refl ]
+
+    same_awaited : (slot : Slot) → is_awaited session (as_wanted past slot) ≡ is_awaited session slot
+    unfolding as_wanted
+    same_awaited slot = same_wish slot.task.owner slot.task.wants (is_undone slot.outcome)
+
+    awaited_kept : (slot : Slot) → is_awaited session slot ≡ true → is_kept slot ≡ true
+    awaited_kept slot h = and_right _ _ h
+
+    still_awaited : count_by (is_awaited session) (map (as_wanted past) (undone_slots past)) ≡ count_by (is_awaited session) (slots past)
+    unfolding undone_slots
+    still_awaited =
+        sym (counts (is_awaited session) (map (as_wanted past) (filter is_kept (slots past))))
+        ∙ tally_map (as_wanted past) (is_awaited session) (is_awaited session) same_awaited (filter is_kept (slots past))
+        ∙ tally_filter (is_awaited session) is_kept awaited_kept (slots past)
+        ∙ counts (is_awaited session) (slots past)
+
+    due_here : due_of past session ≡ drop (taken past session) (results past session)
+    unfolding due_of
+    due_here = ap (λ b. cond b (drop (taken past session) (results past session)) []) alive
+
+    left_over : (xs : List FibResult) (n : ℕ) → length (drop 256 (drop n xs)) ≡ length xs - (n + length (take 256 (drop n xs)))
+    left_over xs n = let a = length-drop 256 (drop n xs) in let b = length-drop n xs in let c = length-take 256 (drop n xs) in omega arith
+
+    still_outstanding : count_by (is_awaited session) (map (as_wanted past) (undone_slots past)) + length (drop 256 (due_of past session)) ≡ outstanding past session
+    unfolding outstanding batch
+    still_outstanding =
+        ap (λ n. n + length (drop 256 (due_of past session))) still_awaited
+        ∙ ap (λ xs. count_by (is_awaited session) (slots past) + length (drop 256 xs)) due_here
+        ∙ ap (λ n. count_by (is_awaited session) (slots past) + n) (left_over (results past session) (taken past session))
+
+    still_given : take 256 (due_of past session) ≡ batch past session
+    unfolding batch
+    still_given = ap (take 256) due_here
+
+  kept_slots : undone_slots past ≡ filter is_kept (slots past)
+  unfolding undone_slots
+  kept_slots = refl
+
+pub boards_tell : (config : Config) → BoardsTell config
+boards_tell config past ledger stands = record {
+  next = λ worker.
+      ap (λ board. next_task config.workers board worker) (stands.undone ∙ ap (map (as_wanted past)) (kept_slots past))
+      ∙ next_wanted past config.workers worker (filter is_kept (slots past))
+      ∙ ap (option_map (as_wanted past)) (next_undone config.workers (slots past) worker);
+  clear = λ worker.
+      ap (λ board. is_clear config.workers board worker) (stands.undone ∙ ap (map (as_wanted past)) (kept_slots past))
+      ∙ clear_wanted past config.workers worker (filter is_kept (slots past))
+      ∙ clear_undone config.workers (slots past) worker;
+  given = λ session alive. ap (take 256) (stands.due session) ∙ still_given past session alive;
+  left = λ session alive.
+      ap (λ board. count_by (is_awaited session) board + length (drop 256 (due_for ledger.due session))) stands.undone
+      ∙ ap (λ due. count_by (is_awaited session) (map (as_wanted past) (undone_slots past)) + length (drop 256 due)) (stands.due session)
+      ∙ still_outstanding past session alive;
+}
