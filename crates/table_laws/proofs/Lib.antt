@@ -14,3 +14,4 @@ pub mod Answered
 mod FibClosed
 mod Boards
 mod Handed
+mod Whole

@@ -3,7 +3,9 @@ ghost use Rattle.std.specs.List.{list_all};
 ghost use Rattle.aft_entries.specs.declared.entry.Entry.{Entry};
 ghost use Rattle.aft_entries.specs.Order.{key_eq};
 ghost use Rattle.table_model.specs.declared.job.Work.{Work};
-ghost use Rattle.table_model.specs.Jobs.{effect, work_key};
+ghost use Rattle.table_model.specs.Event.{Event};
+ghost use Rattle.table_model.specs.Jobs.{effect, work_key, slots, fib, is_programmed};
+ghost use Rattle.table_model.specs.Rib.{rib};
 ghost use Rattle.table_model.specs.declared.command.Config.{Config};
 ghost use Rattle.table_model.specs.Laws.{AllAnswered, AnsweredOnce, JobsAscend, CompletesOnce, ConflictsInOrder, OutAreApart, ProgrammedWasReported, ReportsGiveFib, ProgrammedIsThere, FibIsClosed};
 ghost use Rattle.table_model.specs.Table.{in_order};
@@ -66,6 +68,11 @@ pub fn programmed_is_there()
 /// At each event every entry's references are in the forwarding table.
 pub fn fib_is_closed()
     ensures { (config : Config) → FibIsClosed config }
+{}
+
+/// Where each job is programmed, the forwarding table is the table that the commands leave.
+pub fn fib_is_rib_where_programmed()
+    ensures { (past : List Event) → list_all (λ slot. is_programmed slot.outcome) (slots past) ≡ true → fib past ≡ rib past }
 {}
 
 /// The undone jobs and the results that are due tell the next job of a worker, whether it has one left, what a live
