@@ -28,7 +28,7 @@ put_all p e table h here = list_all-append p (filter (is_before e.key) table) (e
 abbrev pub GoesOnAs : List Entry → List Entry → Type 0
 GoesOnAs new old = (k : Key) → (next new k ≡ next old k) ⊎ (next new k ≡ None)
 
-chain_none : (n : ℕ) (table : List Entry) → length (chain n table None) ≡ 0
+pub chain_none : (n : ℕ) (table : List Entry) → length (chain n table None) ≡ 0
 chain_none zero table = refl
 chain_none (suc n) table = refl
 
@@ -43,7 +43,7 @@ module _ (new old : List Entry) (same : GoesOnAs new old) where
   fewer_groups (suc n) (Some k) = let rest : length (chain n new (next new k)) ≤ length (chain n old (next old k)) = goes_on n (next new k) (next old k) (same k) (fewer_groups n (next old k)) in omega arith
 
 -- more steps give no shorter chain
-more_steps : (m n : ℕ) (table : List Entry) (from : Option Key) → m ≤ n → length (chain m table from) ≤ length (chain n table from)
+pub more_steps : (m n : ℕ) (table : List Entry) (from : Option Key) → m ≤ n → length (chain m table from) ≤ length (chain n table from)
 more_steps zero n table from le = omega arith
 more_steps (suc m) zero table from le = absurd (omega arith)
 more_steps (suc m) (suc n) table None le = omega arith
@@ -52,7 +52,7 @@ more_steps (suc m) (suc n) table (Some k) le = let rest : length (chain m table 
 abbrev pub is_short : List Entry → Entry → Bool
 is_short table e = nat_le (length (chain 5 table (Some e.key))) 4
 
-short_le : (table : List Entry) (k : Key) → nat_le (length (chain 5 table (Some k))) 4 ≡ true → length (chain 5 table (Some k)) ≤ 4
+pub short_le : (table : List Entry) (k : Key) → nat_le (length (chain 5 table (Some k))) 4 ≡ true → length (chain 5 table (Some k)) ≤ 4
 short_le table k h = grind (arith, nat_tests)
 
 le_short : (table : List Entry) (k : Key) → length (chain 5 table (Some k)) ≤ 4 → nat_le (length (chain 5 table (Some k))) 4 ≡ true
@@ -65,7 +65,7 @@ shallow_fewer new old same h =
     all_weaken (is_short old) (is_short new) new
     (λ e k. let le : length (chain 5 new (Some e.key)) ≤ length (chain 5 old (Some e.key)) = fewer_groups new old same 5 (Some e.key) in let short = short_le old e.key k in le_short new e.key (omega arith)) h
 
-shallow_all : (table : List Entry) → is_shallow table ≡ true → list_all (is_short table) table ≡ true
+pub shallow_all : (table : List Entry) → is_shallow table ≡ true → list_all (is_short table) table ≡ true
 unfolding is_shallow
 shallow_all table h = h
 
@@ -167,7 +167,7 @@ found_step : (k : Key) (x e : Entry) (rest : Option Entry) → (rest ≡ Some e 
 found_step k x e rest go true here f = let one : x ≡ e = cc in key_eq_same k x.key here ∙ ap (λ (y : Entry). y.key) one
 found_step k x e rest go false here f = go f
 
-found_key : (k : Key) (e : Entry) (xs : List Entry) → find (λ x. key_eq k x.key) xs ≡ Some e → k ≡ e.key
+pub found_key : (k : Key) (e : Entry) (xs : List Entry) → find (λ x. key_eq k x.key) xs ≡ Some e → k ≡ e.key
 found_key k e [] h = cc
 found_key k e (x ∷ xs) h = found_step k x e (find (λ y. key_eq k y.key) xs) (found_key k e xs) (key_eq k x.key) refl h
 
@@ -184,10 +184,10 @@ above_next_by i table k l (Some e) is goes le =
 -- What is put.
 
 module _ (e : Entry) (table : List Entry) where
-  other_next : (k : Key) → key_eq k e.key ≡ false → next (put e table) k ≡ next table k
+  pub other_next : (k : Key) → key_eq k e.key ≡ false → next (put e table) k ≡ next table k
   other_next k apart = next_by (put e table) table k (lookup_put_other k e table apart)
 
-  own_next : next (put e table) e.key ≡ backup_of e
+  pub own_next : next (put e table) e.key ≡ backup_of e
   own_next = ap (option_and_then backup_of) (lookup_put_same e table)
 
   or_left : (a b : Bool) → a || b ≡ false → a ≡ false
@@ -199,7 +199,7 @@ module _ (e : Entry) (table : List Entry) where
   or_right false b h = h
 
   -- a chain that doesn't come to the entry is as before
-  chain_beside : (n : ℕ) (from : Option Key) → list_any (key_eq e.key) (chain n table from) ≡ false → chain n (put e table) from ≡ chain n table from
+  pub chain_beside : (n : ℕ) (from : Option Key) → list_any (key_eq e.key) (chain n table from) ≡ false → chain n (put e table) from ≡ chain n table from
   chain_beside zero from apart = refl
   chain_beside (suc n) None apart = refl
   chain_beside (suc n) (Some k) apart =

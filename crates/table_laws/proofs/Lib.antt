@@ -15,3 +15,5 @@ mod FibClosed
 mod Boards
 mod Handed
 mod Whole
+mod Members
+mod Deep

@@ -24,5 +24,5 @@ pub use jobs::{
 };
 pub use rib::{
     chains_are_short, done_is_there, done_where_due, equal_lookups, events_are_lawful,
-    rib_changes_by_these, rib_is_closed, rib_is_in_order,
+    rib_changes_by_these, rib_is_closed, rib_is_in_order, too_deep_is_not_shallow,
 };

@@ -1,11 +1,11 @@
-ghost use Rattle.std.specs.Prelude.{◌≡◌, true, List};
+ghost use Rattle.std.specs.Prelude.{◌≡◌, true, not, List};
 ghost use Rattle.aft_entries.specs.declared.entry.Entry.{Entry};
 ghost use Rattle.aft_entries.specs.declared.key.Key.{Key};
 ghost use Rattle.table_model.specs.declared.command.Config.{Config};
 ghost use Rattle.table_model.specs.Event.{Event, events};
 ghost use Rattle.table_model.specs.Laws.{RibIsClosed, RibIsInOrder, ChainsAreShort, RibChangesByThese, DoneWhereDue, DoneIsThere};
 ghost use Rattle.table_model.specs.Legal.{Legal, IsLawful};
-ghost use Rattle.table_model.specs.Table.{lookup, in_order};
+ghost use Rattle.table_model.specs.Table.{lookup, in_order, is_shallow, is_too_deep, put};
 
 /// The events of a legal record are a lawful history: each is answered as the server with one thread does.
 pub fn events_are_lawful()
@@ -25,6 +25,12 @@ pub fn rib_is_closed()
 /// At each event no chain of backups comes back to itself or has more than four groups.
 pub fn chains_are_short()
     ensures { (config : Config) → ChainsAreShort config }
+{}
+
+/// A group is refused as too deep exactly where the table with it would have a chain that comes back to itself or has
+/// more than four groups.
+pub fn too_deep_is_not_shallow()
+    ensures { (table : List Entry) (entry : Entry) → in_order table ≡ true → is_shallow table ≡ true → is_too_deep table entry ≡ not (is_shallow (put entry table)) }
 {}
 
 /// The table changes only by an operation of the then primary under the highest id, a Flush that is allowed, or the
