@@ -34,7 +34,7 @@ module _ (table : List Entry) (a : Key) where
 
 -- In a shallow table every chain ends after four groups.
 
-found_in : (p : Entry → Bool) (x : Entry) (xs : List Entry) → find p xs ≡ Some x → In x xs
+pub found_in : (p : Entry → Bool) (x : Entry) (xs : List Entry) → find p xs ≡ Some x → In x xs
 found_in p x [] is = cc
 found_in p x (y ∷ xs) is = by_test (p y) is (found_in p x xs)
   where
@@ -42,7 +42,7 @@ found_in p x (y ∷ xs) is = by_test (p y) is (found_in p x xs)
     by_test true found go = inl cc
     by_test false found go = inr (go found)
 
-ends : (m d : ℕ) (table : List Entry) (from : Option Key) → length (chain m table from) < m → length (chain (d + m) table from) ≡ length (chain m table from)
+pub ends : (m d : ℕ) (table : List Entry) (from : Option Key) → length (chain m table from) < m → length (chain (d + m) table from) ≡ length (chain m table from)
 ends zero d table from less = absurd (omega arith)
 ends (suc m) d table None less =
     let one : d + suc m ≡ suc (d + m) = omega arith in ap (λ n. length (chain n table None)) one
@@ -59,10 +59,10 @@ module _ (table : List Entry) (shallow : is_shallow table ≡ true) where
       let same : length (chain 5 table (Some k)) ≡ length (chain 5 table (Some e.key)) = ap (λ x. length (chain 5 table (Some x))) (found_key k e table is) in
       omega arith
 
-  all_short : (k : Key) → length (chain 5 table (Some k)) ≤ 4
+  pub all_short : (k : Key) → length (chain 5 table (Some k)) ≤ 4
   all_short k = short_by k (lookup k table) refl
 
-  never_long : (n : ℕ) (k : Key) → length (chain n table (Some k)) ≤ 4
+  pub never_long : (n : ℕ) (k : Key) → length (chain n table (Some k)) ≤ 4
   never_long n k =
       let five = all_short k in
       let stay : length (chain (n + 5) table (Some k)) ≡ length (chain 5 table (Some k)) = ends 5 n table (Some k) (omega arith) in

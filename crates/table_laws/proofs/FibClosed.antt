@@ -143,7 +143,7 @@ module _ (past : List Event) (before : Holds past) where
     taken : Taken past turn → After (Some turn) None
     taken took =
         idle (each_weaken (λ other. number_eq (number took.task) (number other) ≡ true → other ≡ took.task) (λ t. number_eq turn.number (number t) ≡ true → Ready (fib past) turn.outcome t) (tasks past)
-        (λ t only here out. ap (λ (x : Task). is_skipped (fib past) x.job.work) (only (ap (λ n. number_eq n (number t)) (sym took.of_it) ∙ here)) ∙ took.fits out) took.only)
+        (λ t only here out. ap (λ (x : Task). is_skipped (fib past) x.job.work) (only (ap (λ n. number_eq n (number t)) (sym took.of_it) ∙ here)) ∙ took.told ∙ ap not out) took.only)
 
     each_said : Said past turn → (t : Task) → number_eq turn.number (number t) ≡ true → Ready (fib past) turn.outcome t
     each_said said t here out = absurd (out_or_done turn.outcome said.completes out)

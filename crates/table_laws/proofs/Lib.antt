@@ -17,3 +17,6 @@ mod Handed
 mod Whole
 mod Members
 mod Deep
+mod MadeWell
+mod MadeAll
+mod Faultless

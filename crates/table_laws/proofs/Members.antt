@@ -24,7 +24,7 @@ unfolding in_order
 apart_in x y xs sorted there =
     key_eq_symm y.key x.key ∙ not_true (key_eq x.key y.key) (after_apart x.key y (above_after x.key y (passes_in (is_above x.key) y xs (and_left (list_all (is_above x.key) xs) (in_order xs) sorted) there)))
 
-tail_sorted : (x : Entry) (xs : List Entry) → in_order (x ∷ xs) ≡ true → in_order xs ≡ true
+pub tail_sorted : (x : Entry) (xs : List Entry) → in_order (x ∷ xs) ≡ true → in_order xs ≡ true
 unfolding in_order
 tail_sorted x xs sorted = and_right (list_all (is_above x.key) xs) (in_order xs) sorted
 

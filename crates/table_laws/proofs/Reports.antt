@@ -49,7 +49,7 @@ pub fib_is : (past : List Event) → fib past ≡ done_fold (outcome_of past) []
 unfolding fib table_of slots
 fib_is past = fold_is past [] (tasks past)
 
-done_append : (f : JobNumber → Outcome) (table : List Entry) (xs ys : List Task) → done_fold f table (xs ++ ys) ≡ done_fold f (done_fold f table xs) ys
+pub done_append : (f : JobNumber → Outcome) (table : List Entry) (xs ys : List Task) → done_fold f table (xs ++ ys) ≡ done_fold f (done_fold f table xs) ys
 done_append f table [] ys = refl
 done_append f table (x ∷ xs) ys = done_append f (programs f table x) xs ys
 
@@ -69,7 +69,7 @@ done_none f table (t ∷ ts) h = ap (λ b. done_fold f (cond b (effect table t.j
 abbrev Clear : (JobNumber → Outcome) → Work → Task → Type 0
 Clear f work t = is_programmed (f (number t)) ≡ true → key_eq (work_key work) (work_key t.job.work) ≡ false
 
-in_order_programs : (f : JobNumber → Outcome) (table : List Entry) (t : Task) → in_order table ≡ true → in_order (programs f table t) ≡ true
+pub in_order_programs : (f : JobNumber → Outcome) (table : List Entry) (t : Task) → in_order table ≡ true → in_order (programs f table t) ≡ true
 in_order_programs f table t sorted = by_done (is_programmed (f (number t)))
   where
     by_done : (b : Bool) → in_order (cond b (effect table t.job.work) table) ≡ true
@@ -111,7 +111,7 @@ out_undone Programmed h = cc
 out_undone Faulted h = cc
 out_undone PassedOver h = cc
 
-undone_not_programmed : (o : Outcome) → is_undone o ≡ true → is_programmed o ≡ false
+pub undone_not_programmed : (o : Outcome) → is_undone o ≡ true → is_programmed o ≡ false
 undone_not_programmed Waiting h = refl
 undone_not_programmed Out h = refl
 undone_not_programmed Programmed h = cc

@@ -12,7 +12,7 @@ use Rattle.table_model.specs.declared.command.Operation.{Operation}
 use Rattle.table_model.specs.declared.reply.Reply.{Reply}
 use Rattle.table_model.specs.declared.reply.Reply.TheVariants as reply
 use Rattle.table_model.specs.Event.{Event, is_done, is_left, is_flushed}
-use Rattle.table_model.specs.Legal.{IsLawful}
+use Rattle.table_model.specs.Legal.{IsLawful, is_formed, is_formed_ask}
 use Rattle.table_model.specs.Reply.{reply_to, reply_operate, operate_reply, is_halted, is_gone}
 use Rattle.table_model.specs.Rib.{rib, purges, verdict, is_id}
 use Rattle.table_model.specs.Table.{performed, refusal}
@@ -45,11 +45,11 @@ pub verdict_refusal : (config : Config) (past : List Event) (session : ℕ) (ope
 unfolding verdict
 verdict_refusal config past session operation h = by_reasons (not (is_primary past session)) (not (is_id operation.election (highest past))) NotPrimary ElectionIdDiffers (refusal config.instances config.limit (rib past) operation.ask) h
 
-module _ (Q : List Entry → Type 0) (empty : Q []) (performs : (instances limit : ℕ) (table : List Entry) (ask : Ask) → refusal instances limit table ask ≡ None → Q table → Q (performed ask table)) (flushes : (table : List Entry) (which : Which) → Q table → Q (kept table which)) where
+module _ (Q : List Entry → Type 0) (empty : Q []) (performs : (instances limit : ℕ) (table : List Entry) (ask : Ask) → refusal instances limit table ask ≡ None → is_formed_ask ask ≡ true → Q table → Q (performed ask table)) (flushes : (table : List Entry) (which : Which) → Q table → Q (kept table which)) where
   module _ (config : Config) (past : List Event) (holds : Q (rib past)) where
-    operate_holds : (session : ℕ) (operation : Operation) (now : ℤ) (r : Reply) → r ≡ reply_to config past (Operate session operation now) → Q (cond (is_done r) (performed operation.ask (rib past)) (rib past))
-    operate_holds session operation now reply.RibDone told = performs config.instances config.limit (rib past) operation.ask (verdict_refusal config past session operation (done_verdict config past session operation now (sym told))) holds
-    operate_holds session operation now _ told = holds
+    operate_holds : (session : ℕ) (operation : Operation) (now : ℤ) (r : Reply) → r ≡ reply_to config past (Operate session operation now) → is_formed_ask operation.ask ≡ true → Q (cond (is_done r) (performed operation.ask (rib past)) (rib past))
+    operate_holds session operation now reply.RibDone told formed = performs config.instances config.limit (rib past) operation.ask (verdict_refusal config past session operation (done_verdict config past session operation now (sym told))) formed holds
+    operate_holds session operation now _ told formed = holds
 
     leave_holds : (b : Bool) → Q (cond b [] (rib past))
     leave_holds true = empty
@@ -59,19 +59,19 @@ module _ (Q : List Entry → Type 0) (empty : Q []) (performs : (instances limit
     flush_holds true which = flushes (rib past) which holds
     flush_holds false which = holds
 
-    step_holds : (command : Command) (r : Reply) → r ≡ reply_to config past command → Q (rib (record { command = command; reply = r } ∷ past))
+    step_holds : (command : Command) (r : Reply) → r ≡ reply_to config past command → is_formed command ≡ true → Q (rib (record { command = command; reply = r } ∷ past))
     unfolding rib
-    step_holds (Operate session operation now) r told = operate_holds session operation now r told
-    step_holds (Leave session) r told = leave_holds (is_left r && purges past session)
-    step_holds (Flush by which now) r told = flush_holds (is_flushed r) which
-    step_holds Begin r told = holds
-    step_holds (SetParams session asked) r told = holds
-    step_holds (Announce session id) r told = holds
-    step_holds (Collect session) r told = holds
-    step_holds (Select which kinds) r told = holds
-    step_holds (Take worker now) r told = holds
-    step_holds (Report number said now) r told = holds
-    step_holds Halt r told = holds
+    step_holds (Operate session operation now) r told formed = operate_holds session operation now r told formed
+    step_holds (Leave session) r told formed = leave_holds (is_left r && purges past session)
+    step_holds (Flush by which now) r told formed = flush_holds (is_flushed r) which
+    step_holds Begin r told formed = holds
+    step_holds (SetParams session asked) r told formed = holds
+    step_holds (Announce session id) r told formed = holds
+    step_holds (Collect session) r told formed = holds
+    step_holds (Select which kinds) r told formed = holds
+    step_holds (Take worker now) r told formed = holds
+    step_holds (Report number said now) r told formed = holds
+    step_holds Halt r told formed = holds
 
   empty_holds : Q (rib [])
   unfolding rib
@@ -79,4 +79,4 @@ module _ (Q : List Entry → Type 0) (empty : Q []) (performs : (instances limit
 
   pub rib_holds : (config : Config) (past : List Event) → IsLawful config past → Q (rib past)
   rib_holds config [] lawful = empty_holds
-  rib_holds config (e ∷ past) lawful = step_holds config past (rib_holds config past lawful.1) e.command e.reply lawful.0
+  rib_holds config (e ∷ past) lawful = step_holds config past (rib_holds config past lawful.1) e.command e.reply lawful.0 lawful.2

@@ -1,8 +1,10 @@
 -- The table of each lawful history: in order, closed, with short chains, and what changes it.
 use Rattle.std.proofs.Common.{◌≡◌, ℕ, Bool, true, false, List, [], ◌∷◌, Some, None, Option, refl, sym, ap, ◌∙◌, arith, inl, inr, ◌⊎◌}
 use Rattle.std.specs.Prelude.{not, cond, ℤ}
+use Rattle.std.specs.List.{list_all}
 use Rattle.std.proofs.lemmas.Bool.Decides.{nat_tests}
 use Rattle.aft_entries.specs.declared.entry.Entry.{Entry}
+use Rattle.aft_entries.specs.Shapes.{fits}
 use Rattle.aft_entries.specs.declared.operation.Ask.{Ask}
 use Rattle.aft_entries.specs.declared.operation.Ask.TheVariants.{Put, Remove, Bad}
 use Rattle.aft_entries.specs.declared.operation.Reason.{Reason}
@@ -18,30 +20,31 @@ use Rattle.table_model.specs.declared.reply.Reply.TheVariants as reply
 use Rattle.table_model.specs.Election.{is_primary, highest}
 use Rattle.table_model.specs.Event.{Event, is_flushed}
 use Rattle.table_model.specs.Laws.{event, is_closed, MayChange, RibIsClosed, RibIsInOrder, ChainsAreShort, RibChangesByThese}
+use Rattle.table_model.specs.Legal.{IsLawful, is_formed_ask}
 use Rattle.table_model.specs.Reply.{reply_to, is_halted, may_flush}
 use Rattle.table_model.specs.Rib.{rib, purges, verdict, is_id}
 use Rattle.table_model.specs.Sessions.{params_of, deletes}
 use Rattle.table_model.specs.Table.{in_order, is_shallow, performed, refusal, remains, kept}
-use Rattle.table_model.proofs.Closed.{closed_put, closed_take_out}
+use Rattle.table_model.proofs.Closed.{closed_put, closed_take_out, all_put, all_taken}
 use Rattle.table_model.proofs.FlushClosed.{kept_closed}
 use Rattle.table_model.proofs.TableLemmas.{in_order_put, in_order_take_out, in_order_filter, in_order_empty}
-use Rattle.table_model.proofs.Tests.{and_left, and_right}
+use Rattle.table_model.proofs.Tests.{and_left, and_right, all_filter}
 use Rattle.table_laws.proofs.Chains.{shallow_put, shallow_take_out, shallow_kept}
 use Rattle.table_laws.proofs.Refused.{put_resolves, put_shallow, remove_unused}
 use Rattle.table_laws.proofs.RibHolds.{rib_holds, done_verdict}
 
-closed_performed : (instances limit : ℕ) (table : List Entry) (ask : Ask) → refusal instances limit table ask ≡ None → is_closed table ≡ true → is_closed (performed ask table) ≡ true
-closed_performed instances limit table (Put entry replace) h closed = closed_put entry table closed (put_resolves instances limit table entry replace h)
-closed_performed instances limit table (Remove key) h closed = closed_take_out key table closed (remove_unused instances limit table key h)
-closed_performed instances limit table (Bad reason) h closed = closed
+closed_performed : (instances limit : ℕ) (table : List Entry) (ask : Ask) → refusal instances limit table ask ≡ None → is_formed_ask ask ≡ true → is_closed table ≡ true → is_closed (performed ask table) ≡ true
+closed_performed instances limit table (Put entry replace) h formed closed = closed_put entry table closed (put_resolves instances limit table entry replace h)
+closed_performed instances limit table (Remove key) h formed closed = closed_take_out key table closed (remove_unused instances limit table key h)
+closed_performed instances limit table (Bad reason) h formed closed = closed
 
 pub closed : (config : Config) → RibIsClosed config
 closed config = rib_holds (λ table. is_closed table ≡ true) refl closed_performed kept_closed config
 
-in_order_performed : (instances limit : ℕ) (table : List Entry) (ask : Ask) → refusal instances limit table ask ≡ None → in_order table ≡ true → in_order (performed ask table) ≡ true
-in_order_performed instances limit table (Put entry replace) h sorted = in_order_put entry table sorted
-in_order_performed instances limit table (Remove key) h sorted = in_order_take_out key table sorted
-in_order_performed instances limit table (Bad reason) h sorted = sorted
+in_order_performed : (instances limit : ℕ) (table : List Entry) (ask : Ask) → refusal instances limit table ask ≡ None → is_formed_ask ask ≡ true → in_order table ≡ true → in_order (performed ask table) ≡ true
+in_order_performed instances limit table (Put entry replace) h formed sorted = in_order_put entry table sorted
+in_order_performed instances limit table (Remove key) h formed sorted = in_order_take_out key table sorted
+in_order_performed instances limit table (Bad reason) h formed sorted = sorted
 
 in_order_kept : (table : List Entry) (which : Which) → in_order table ≡ true → in_order (kept table which) ≡ true
 unfolding kept
@@ -50,10 +53,10 @@ in_order_kept table which sorted = in_order_filter _ table sorted
 pub sorted : (config : Config) → RibIsInOrder config
 sorted config = rib_holds (λ table. in_order table ≡ true) in_order_empty in_order_performed in_order_kept config
 
-shallow_performed : (instances limit : ℕ) (table : List Entry) (ask : Ask) → refusal instances limit table ask ≡ None → is_shallow table ≡ true → is_shallow (performed ask table) ≡ true
-shallow_performed instances limit table (Put entry replace) h short = shallow_put entry table (put_shallow instances limit table entry replace h) short
-shallow_performed instances limit table (Remove key) h short = shallow_take_out key table short
-shallow_performed instances limit table (Bad reason) h short = short
+shallow_performed : (instances limit : ℕ) (table : List Entry) (ask : Ask) → refusal instances limit table ask ≡ None → is_formed_ask ask ≡ true → is_shallow table ≡ true → is_shallow (performed ask table) ≡ true
+shallow_performed instances limit table (Put entry replace) h formed short = shallow_put entry table (put_shallow instances limit table entry replace h) short
+shallow_performed instances limit table (Remove key) h formed short = shallow_take_out key table short
+shallow_performed instances limit table (Bad reason) h formed short = short
 
 shallow_empty : is_shallow [] ≡ true
 unfolding is_shallow
@@ -61,6 +64,22 @@ shallow_empty = refl
 
 pub shallow : (config : Config) → ChainsAreShort config
 shallow config = rib_holds (λ table. is_shallow table ≡ true) shallow_empty shallow_performed shallow_kept config
+
+-- each entry's payload is of its key's kind
+abbrev pub is_formed_entry : Entry → Bool
+is_formed_entry e = fits e.key.name e.payload
+
+formed_performed : (instances limit : ℕ) (table : List Entry) (ask : Ask) → refusal instances limit table ask ≡ None → is_formed_ask ask ≡ true → list_all is_formed_entry table ≡ true → list_all is_formed_entry (performed ask table) ≡ true
+formed_performed instances limit table (Put entry replace) h formed all = all_put is_formed_entry entry table all formed
+formed_performed instances limit table (Remove key) h formed all = all_taken is_formed_entry key table all
+formed_performed instances limit table (Bad reason) h formed all = all
+
+formed_kept : (table : List Entry) (which : Which) → list_all is_formed_entry table ≡ true → list_all is_formed_entry (kept table which) ≡ true
+unfolding kept
+formed_kept table which all = all_filter is_formed_entry _ table all
+
+pub formed : (config : Config) (past : List Event) → IsLawful config past → list_all is_formed_entry (rib past) ≡ true
+formed config = rib_holds (λ table. list_all is_formed_entry table ≡ true) refl formed_performed formed_kept config
 
 -- What changes it.
 

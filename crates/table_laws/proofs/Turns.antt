@@ -116,7 +116,10 @@ pub record Taken (past : List Event) (turn : Turn) : Type 0 where
   pub free : Each (λ other. is_undone (outcome_of past (number other)) && number_lt (number other) (number task) && conflict other task ≡ false) (tasks past)
   pub only : Each (λ other. number_eq (number task) (number other) ≡ true → other ≡ task) (tasks past)
   pub not_done : is_programmed turn.outcome ≡ false
-  pub fits : is_out turn.outcome ≡ true → is_skipped (fib past) task.job.work ≡ false
+  pub told : is_skipped (fib past) task.job.work ≡ not (is_out turn.outcome)
+  pub front : List Task
+  pub back : List Task
+  pub parts : tasks past ≡ front ++ task ∷ back
 
 -- or it was out, and its device was reported
 pub record Said (past : List Event) (turn : Turn) : Type 0 where
@@ -129,6 +132,9 @@ module _ (past : List Event) (p : Slot → Bool) where
     pub outcome_is : slot.outcome ≡ outcome_of past (number slot.task)
     pub only : Each (λ other. number_eq (number slot.task) (number other) ≡ true → other ≡ slot.task) ts
     pub each : (q : Task → Bool) → list_all q ts ≡ true → q slot.task ≡ true
+    pub front : List Task
+    pub back : List Task
+    pub parts : ts ≡ front ++ slot.task ∷ back
 
   none_equal : (x : Task) (ts : List Task) → Each (Before x) ts → Each (λ other. number_eq (number x) (number other) ≡ true → other ≡ x) ts
   none_equal x ts lt = each_weaken (Before x) (λ other. number_eq (number x) (number other) ≡ true → other ≡ x) ts (λ y below same. absurd (apart x y (number x) below (number_refl (number x)) same)) lt
@@ -137,7 +143,7 @@ module _ (past : List Event) (p : Slot → Bool) where
       → (rest ≡ Some slot → IsFound slot ts) → (b : Bool) → p (slot_at past x) ≡ b → cond b (Some (slot_at past x)) rest ≡ Some slot → IsFound slot (x ∷ ts)
   found_step slot x ts rest lt below go true is found =
       let one : slot_at past x ≡ slot = cc in
-      rw (← one) (record { passes = is; outcome_is = refl; only = ((λ same. refl), none_equal x ts lt); each = λ q h. and_left (q x) (list_all q ts) h })
+      rw (← one) (record { passes = is; outcome_is = refl; only = ((λ same. refl), none_equal x ts lt); each = λ q h. and_left (q x) (list_all q ts) h; front = []; back = ts; parts = refl })
   found_step slot x ts rest lt below go false is found =
       let later = go found in
       record {
@@ -145,6 +151,9 @@ module _ (past : List Event) (p : Slot → Bool) where
         outcome_is = later.outcome_is;
         only = ((λ same. absurd (apart x slot.task (number slot.task) (later.each (λ y. number_lt (number x) (number y)) below) same (number_refl (number slot.task)))), later.only);
         each = λ q h. later.each q (and_right (q x) (list_all q ts) h);
+        front = x ∷ later.front;
+        back = later.back;
+        parts = ap (λ ys. x ∷ ys) later.parts;
       }
 
   pub found : (slot : Slot) (ts : List Task) → is_ascending ts ≡ true → find p (map (slot_at past) ts) ≡ Some slot → IsFound slot ts
@@ -192,8 +201,8 @@ module _ (config : Config) (past : List Event) where
           (ap (λ board. not (list_any (λ s. is_undone s.outcome && number_lt s.task.job.number (number slot.task) && conflict s.task slot.task) board)) (sym (slots_are past))
           ∙ and_right (on_shard config.workers worker slot.task && is_waiting slot.outcome) (not (is_blocked (slots past) slot.task)) here.passes)
 
-      with_outcome : (outcome : Outcome) → is_programmed outcome ≡ false → (is_out outcome ≡ true → is_skipped (fib past) slot.task.job.work ≡ false) → Taken past (record { number = slot.task.job.number; outcome = outcome; now = now })
-      with_outcome outcome left fits = record {
+      with_outcome : (outcome : Outcome) → is_programmed outcome ≡ false → is_skipped (fib past) slot.task.job.work ≡ not (is_out outcome) → Taken past (record { number = slot.task.job.number; outcome = outcome; now = now })
+      with_outcome outcome left told = record {
         task = slot.task;
         of_it = refl;
         waited = waits;
@@ -201,12 +210,15 @@ module _ (config : Config) (past : List Event) where
         free = unblocked;
         only = here.only;
         not_done = left;
-        fits = fits;
+        told = told;
+        front = here.front;
+        back = here.back;
+        parts = here.parts;
       }
 
       made : (b : Bool) → is_skipped (fib past) slot.task.job.work ≡ b → turn_taken now (cond b (reply.Skipped slot.task.job.number) (reply.Given slot.task.job)) ≡ Some turn → Taken past turn
-      made true skipped h = let one : record { number = slot.task.job.number; outcome = PassedOver; now = now } ≡ turn = cc in rw (← one) (with_outcome PassedOver refl (λ out. cc))
-      made false fine h = let one : record { number = slot.task.job.number; outcome = Out; now = now } ≡ turn = cc in rw (← one) (with_outcome Out refl (λ out. fine))
+      made true skipped h = let one : record { number = slot.task.job.number; outcome = PassedOver; now = now } ≡ turn = cc in rw (← one) (with_outcome PassedOver refl skipped)
+      made false fine h = let one : record { number = slot.task.job.number; outcome = Out; now = now } ≡ turn = cc in rw (← one) (with_outcome Out refl fine)
 
   -- what is reported
   said_by : (job : JobNumber) (said : Verdict) (now : ℤ) (turn : Turn) (b : Bool) → is_out (outcome_of past job) ≡ b
@@ -220,9 +232,13 @@ module _ (config : Config) (past : List Event) where
       done verdict.Programmed = refl
       done verdict.DeviceFault = refl
 
+  pub taken_is : (worker : ℕ) (now : ℤ) (r : Reply) → r ≡ reply_to config past (Take worker now) → (turn : Turn) → turn_taken now r ≡ Some turn → Taken past turn
+  unfolding reply_to reply_take
+  taken_is worker now r told turn is = taken_by worker now turn (next_task config.workers (slots past) worker) refl (ap (turn_taken now) (sym told) ∙ is)
+
   pub turn_is : (command : Command) (r : Reply) → r ≡ reply_to config past command → (turn : Turn) → turn_of (event command r) ≡ Some turn → Taken past turn ⊎ Said past turn
   unfolding reply_to reply_take
-  turn_is (Take worker now) r told turn is = inl (taken_by worker now turn (next_task config.workers (slots past) worker) refl (ap (turn_taken now) (sym told) ∙ is))
+  turn_is (Take worker now) r told turn is = inl (taken_is worker now r told turn is)
   turn_is (Report job said now) r told turn is = inr (said_by job said now turn (is_out (outcome_of past job)) refl (ap (λ x. turn_of (event (Report job said now) x)) (sym told) ∙ is))
   turn_is Begin r told turn is = cc
   turn_is (SetParams session asked) r told turn is = cc

@@ -47,16 +47,16 @@ or_swap false true false n = refl
 or_swap false false true n = refl
 or_swap false false false n = refl
 
-or_true : (a b : Bool) → a ≡ true → a || b ≡ true
+pub or_true : (a b : Bool) → a ≡ true → a || b ≡ true
 or_true true b h = refl
 or_true false b h = cc
 
-or_right_true : (a b : Bool) → b ≡ true → a || b ≡ true
+pub or_right_true : (a b : Bool) → b ≡ true → a || b ≡ true
 or_right_true true b h = refl
 or_right_true false b h = h
 
 module _ {X : Type 0} where
-  filter_twice : (p q : X → Bool) (xs : List X) → filter p (filter q xs) ≡ filter (λ x. q x && p x) xs
+  pub filter_twice : (p q : X → Bool) (xs : List X) → filter p (filter q xs) ≡ filter (λ x. q x && p x) xs
   filter_twice p q [] = refl
   filter_twice p q (x ∷ xs) = by_test (q x) (filter_twice p q xs)
     where
@@ -64,15 +64,15 @@ module _ {X : Type 0} where
       by_test true rest = ap (λ ys. cond (p x) (x ∷ ys) ys) rest
       by_test false rest = rest
 
-  filter_same : (p q : X → Bool) → ((x : X) → p x ≡ q x) → (xs : List X) → filter p xs ≡ filter q xs
+  pub filter_same : (p q : X → Bool) → ((x : X) → p x ≡ q x) → (xs : List X) → filter p xs ≡ filter q xs
   filter_same p q same [] = refl
   filter_same p q same (x ∷ xs) = ap (λ b. cond b (x ∷ filter p xs) (filter p xs)) (same x) ∙ ap (λ ys. cond (q x) (x ∷ ys) ys) (filter_same p q same xs)
 
-  any_same : (p q : X → Bool) → ((x : X) → p x ≡ q x) → (xs : List X) → list_any p xs ≡ list_any q xs
+  pub any_same : (p q : X → Bool) → ((x : X) → p x ≡ q x) → (xs : List X) → list_any p xs ≡ list_any q xs
   any_same p q same [] = refl
   any_same p q same (x ∷ xs) = ap (λ b. b || list_any p xs) (same x) ∙ ap (λ b. q x || b) (any_same p q same xs)
 
-  any_filter : (p q : X → Bool) (xs : List X) → list_any q (filter p xs) ≡ list_any (λ x. p x && q x) xs
+  pub any_filter : (p q : X → Bool) (xs : List X) → list_any q (filter p xs) ≡ list_any (λ x. p x && q x) xs
   any_filter p q [] = refl
   any_filter p q (x ∷ xs) = by_test (p x) (any_filter p q xs)
     where
@@ -107,17 +107,17 @@ module _ {X : Type 0} where
       by_test true rest = refl
       by_test false rest = rest
 
-  all_true : (xs : List X) → list_all (λ x. true) xs ≡ true
+  pub all_true : (xs : List X) → list_all (λ x. true) xs ≡ true
   all_true [] = refl
   all_true (x ∷ xs) = all_true xs
 
 -- A purge.
 
 -- whether one of these has the entry's key
-abbrev goes : List Entry → Entry → Bool
+abbrev pub goes : List Entry → Entry → Bool
 goes gone e = list_any (λ g. key_eq g.key e.key) gone
 
-not_or : (a b : Bool) → not a && not b ≡ not (a || b)
+pub not_or : (a b : Bool) → not a && not b ≡ not (a || b)
 not_or true b = refl
 not_or false b = refl
 
@@ -131,7 +131,7 @@ purge_leaves position index (g ∷ gone) table =
 
 -- The order of a purge has each entry.
 
-chain_short : (n : ℕ) (table : List Entry) (from : Option Key) → length (chain n table from) ≤ n
+pub chain_short : (n : ℕ) (table : List Entry) (from : Option Key) → length (chain n table from) ≤ n
 chain_short zero table from = omega arith
 chain_short (suc n) table None = omega arith
 chain_short (suc n) table (Some k) = let rest : length (chain n table (option_and_then backup_of (lookup k table))) ≤ n = chain_short n table (option_and_then backup_of (lookup k table)) in omega arith
@@ -174,10 +174,10 @@ all_purged table gone e =
 -- A purge that leaves what a test of keys tells.
 
 module _ (test : Key → Bool) (old : List Entry) where
-  abbrev left : List Entry
+  abbrev pub left : List Entry
   left = filter (λ e. test e.key) old
 
-  has_left : (key : Key) → has left key ≡ test key && has old key
+  pub has_left : (key : Key) → has left key ≡ test key && has old key
   unfolding lookup
   has_left key = by_test (test key) refl
     where
@@ -222,7 +222,7 @@ module _ (past : List Event) where
   abbrev old : List Entry
   old = rib past
 
-  abbrev purged : List Entry → List Task
+  abbrev pub purged : List Entry → List Task
   purged new = purge_tasks (length past) 0 (purge_order old (removed old new))
 
   purge_to : (test : Key → Bool) (new : List Entry) → new ≡ filter (λ e. test e.key) old → works old (purged new) ≡ new

@@ -7,7 +7,7 @@ ghost use Rattle.table_model.specs.Event.{Event};
 ghost use Rattle.table_model.specs.Jobs.{effect, work_key, slots, fib, is_programmed};
 ghost use Rattle.table_model.specs.Rib.{rib};
 ghost use Rattle.table_model.specs.declared.command.Config.{Config};
-ghost use Rattle.table_model.specs.Laws.{AllAnswered, AnsweredOnce, JobsAscend, CompletesOnce, ConflictsInOrder, OutAreApart, ProgrammedWasReported, ReportsGiveFib, ProgrammedIsThere, FibIsClosed};
+ghost use Rattle.table_model.specs.Laws.{AllAnswered, AnsweredOnce, JobsAscend, CompletesOnce, ConflictsInOrder, OutAreApart, ProgrammedWasReported, ReportsGiveFib, ProgrammedIsThere, FibIsClosed, FaultlessIsSame};
 ghost use Rattle.table_model.specs.Table.{in_order};
 ghost use Rattle.table_laws.specs.Boards.{BoardsTell};
 ghost use Rattle.table_laws.specs.Handed.{HandedWasReported};
@@ -73,6 +73,12 @@ pub fn fib_is_closed()
 /// Where each job is programmed, the forwarding table is the table that the commands leave.
 pub fn fib_is_rib_where_programmed()
     ensures { (past : List Event) → list_all (λ slot. is_programmed slot.outcome) (slots past) ≡ true → fib past ≡ rib past }
+{}
+
+/// Where no device fails, no job is skipped, and where no job is undone the forwarding table is the table that the
+/// commands leave.
+pub fn faultless_is_same()
+    ensures { (config : Config) → FaultlessIsSame config }
 {}
 
 /// The undone jobs and the results that are due tell the next job of a worker, whether it has one left, what a live

@@ -1,6 +1,5 @@
 //! Laws of every lawful history of the table. Each is the contract of a function that does nothing: to call it is
-//! to cite the law. Of the statements in `specs/Laws` of `table_model` only those that a function here has for its
-//! contract are proved.
+//! to cite the law. Each statement in `specs/Laws` of `table_model` is the contract of a function here.
 #![tactic(auto)]
 
 mod election;
@@ -18,9 +17,10 @@ pub use examples::{
     refusals_of_the_table, what_changes_nothing_makes_a_job,
 };
 pub use jobs::{
-    all_are_answered, boards_tell, fib_is_closed, fib_is_rib_where_programmed, handed_was_reported,
-    jobs_ascend, jobs_complete_once, jobs_in_conflict_keep_order, jobs_out_are_apart, late_work,
-    programmed_is_there, programmed_was_reported, reports_give_fib, results_are_answered_once,
+    all_are_answered, boards_tell, faultless_is_same, fib_is_closed, fib_is_rib_where_programmed,
+    handed_was_reported, jobs_ascend, jobs_complete_once, jobs_in_conflict_keep_order,
+    jobs_out_are_apart, late_work, programmed_is_there, programmed_was_reported, reports_give_fib,
+    results_are_answered_once,
 };
 pub use rib::{
     chains_are_short, done_is_there, done_where_due, equal_lookups, events_are_lawful,
