@@ -1,21 +1,29 @@
 -- What a board keeps is enough for what it tells: jobs that are done, and wishes of sessions that left, count for nothing.
-use Rattle.std.proofs.Common.{◌≡◌, ℕ, ◌+◌, ◌-◌, Bool, true, false, List, [], ◌∷◌, length, map, take, drop, Some, None, Option, refl, sym, ap, ◌∙◌, arith}
+use Rattle.std.proofs.Common.{◌≡◌, ℕ, ◌+◌, ◌-◌, Bool, true, false, List, [], ◌∷◌, length, map, take, drop, Some, None, Option, refl, sym, ap, ◌∙◌, arith, inl, inr, ◌⊎◌}
 use Rattle.std.specs.Prelude.{not, ◌&&◌, ◌||◌, ◌==◌, cond, filter, find, count_by, option_map}
 use Rattle.std.specs.List.{list_any}
 use Rattle.std.proofs.lemmas.Bool.Decides.{nat_tests}
 use Rattle.std.proofs.lemmas.List.{length-take, length-drop}
+use Rattle.std.proofs.lemmas.List.Folds.{list_any-append}
 use Rattle.std.proofs.lemmas.List.Recursion.{is_count_by}
 use Rattle.table_model.specs.declared.command.Config.{Config}
 use Rattle.table_model.specs.declared.results.FibResult.{FibResult}
+use Rattle.table_model.specs.declared.job.JobNumber.{JobNumber}
 use Rattle.table_model.specs.Event.{Event}
-use Rattle.table_model.specs.Jobs.{Slot, slots, is_undone, is_waiting, is_blocked, on_shard, next_task, is_clear, number_lt, conflict}
+use Rattle.table_model.specs.Jobs.{Task, Turn, Slot, tasks, tasks_by, slots, turn_of, turned, outcome_of, number_eq, is_undone, is_out, is_waiting, is_blocked, on_shard, next_task, is_clear, number_lt, conflict}
+use Rattle.table_model.specs.Legal.{IsLawful}
 use Rattle.table_model.specs.Ledger.{is_kept, undone_slots, is_owner_live, as_wanted, due_for, due_of}
 use Rattle.table_model.specs.Results.{results, taken, batch, outstanding, is_awaited}
 use Rattle.table_model.specs.Sessions.{is_live}
 use Rattle.table_model.proofs.Tests.{and_right}
-use Rattle.table_model.proofs.Undone.{next_undone, clear_undone}
+use Rattle.table_model.proofs.Undone.{next_undone, clear_undone, any_filter_in}
 use Rattle.table_laws.specs.Boards.{BoardsTell}
 use Rattle.table_laws.proofs.Answered.{tally}
+use Rattle.table_laws.proofs.Ascending.{number}
+use Rattle.table_laws.proofs.InTurn.{says}
+use Rattle.table_laws.proofs.Reports.{out_undone}
+use Rattle.table_laws.proofs.Turns.{number_same, slot_at, Taken, Said}
+use Rattle.table_laws.proofs.Whole.{or_true, or_right_true, any_const}
 
 module _ (f : Slot → Slot) (p q : Slot → Bool) (same : (x : Slot) → p (f x) ≡ q x) where
   find_map : (xs : List Slot) → find p (map f xs) ≡ option_map f (find q xs)
@@ -141,6 +149,74 @@ module _ (past : List Event) where
   unfolding undone_slots
   kept_slots = refl
 
+-- Jobs that are out were made.
+
+out_made : (config : Config) (past : List Event) → IsLawful config past → (n : JobNumber) → is_out (outcome_of past n) ≡ true → list_any (λ t. number_eq (number t) n) (tasks past) ≡ true
+unfolding outcome_of tasks
+out_made config [] lawful n out = cc
+out_made config (e ∷ past) lawful n out =
+    list_any-append (λ t. number_eq (number t) n) (tasks past) (tasks_by e past)
+    ∙ or_true (list_any (λ t. number_eq (number t) n) (tasks past)) (list_any (λ t. number_eq (number t) n) (tasks_by e past))
+    (by_turn (turn_of e) (says config e past lawful) (out_made config past lawful.1 n) out)
+  where
+    was_taken : (turn : Turn) → number_eq turn.number n ≡ true → Taken past turn → list_any (λ t. number_eq (number t) n) (tasks past) ≡ true
+    was_taken turn same taken =
+        ap (list_any (λ t. number_eq (number t) n)) taken.parts
+        ∙ list_any-append (λ t. number_eq (number t) n) taken.front (taken.task ∷ taken.back)
+        ∙ or_right_true (list_any (λ t. number_eq (number t) n) taken.front) (list_any (λ t. number_eq (number t) n) (taken.task ∷ taken.back))
+        (or_true (number_eq (number taken.task) n) (list_any (λ t. number_eq (number t) n) taken.back) (ap (λ m. number_eq m n) (sym taken.of_it) ∙ same))
+
+    by_said : (turn : Turn) → number_eq turn.number n ≡ true → is_out turn.outcome ≡ true → Taken past turn ⊎ Said past turn → list_any (λ t. number_eq (number t) n) (tasks past) ≡ true
+    by_said turn same here (inl taken) = was_taken turn same taken
+    by_said turn same here (inr said) = let no_way : false ≡ true = sym said.completes ∙ out_undone turn.outcome here in cc
+
+    by_number : (turn : Turn) → Taken past turn ⊎ Said past turn → (is_out (outcome_of past n) ≡ true → list_any (λ t. number_eq (number t) n) (tasks past) ≡ true)
+        → (b : Bool) → number_eq turn.number n ≡ b → is_out (cond b turn.outcome (outcome_of past n)) ≡ true → list_any (λ t. number_eq (number t) n) (tasks past) ≡ true
+    by_number turn said before true same here = by_said turn same here said
+    by_number turn said before false far here = before here
+
+    by_turn : (o : Option Turn) → ((turn : Turn) → o ≡ Some turn → Taken past turn ⊎ Said past turn) → (is_out (outcome_of past n) ≡ true → list_any (λ t. number_eq (number t) n) (tasks past) ≡ true)
+        → is_out (turned o n (outcome_of past n)) ≡ true → list_any (λ t. number_eq (number t) n) (tasks past) ≡ true
+    by_turn None told before here = before here
+    by_turn (Some turn) told before here = by_number turn (told turn refl) before (number_eq turn.number n) refl here
+
+module _ (past : List Event) (n : JobNumber) where
+  abbrev names_out : Slot → Bool
+  names_out slot = number_eq slot.task.job.number n && is_out slot.outcome
+
+  same_out : (slot : Slot) → names_out (as_wanted past slot) ≡ names_out slot
+  unfolding as_wanted
+  same_out slot = refl
+
+  at_slot : (ts : List Task) → list_any names_out (map (slot_at past) ts) ≡ list_any (λ t. is_out (outcome_of past n) && number_eq (number t) n) ts
+  at_slot [] = refl
+  at_slot (t ∷ ts) = ap (λ b. b || list_any names_out (map (slot_at past) ts)) (by_number (number_eq (number t) n) refl) ∙ ap (λ b. is_out (outcome_of past n) && number_eq (number t) n || b) (at_slot ts)
+    where
+      both_false : (b : Bool) → b && false ≡ false
+      both_false true = refl
+      both_false false = refl
+
+      both_true : (b : Bool) → b && true ≡ b
+      both_true true = refl
+      both_true false = refl
+
+      by_number : (b : Bool) → number_eq (number t) n ≡ b → b && is_out (outcome_of past (number t)) ≡ is_out (outcome_of past n) && b
+      by_number true same = ap (λ m. is_out (outcome_of past m)) (number_same (number t) n same) ∙ sym (both_true (is_out (outcome_of past n)))
+      by_number false far = sym (both_false (is_out (outcome_of past n)))
+
+  if_made : (b c : Bool) → (b ≡ true → c ≡ true) → b && c ≡ b
+  if_made true c h = h refl
+  if_made false c h = refl
+
+  still_out : (config : Config) → IsLawful config past → list_any names_out (map (as_wanted past) (undone_slots past)) ≡ is_out (outcome_of past n)
+  unfolding undone_slots slots
+  still_out config lawful =
+      any_map (as_wanted past) names_out names_out same_out (filter is_kept (slots past))
+      ∙ any_filter_in names_out is_kept (slots past) (λ slot h. out_undone slot.outcome (and_right (number_eq slot.task.job.number n) (is_out slot.outcome) h))
+      ∙ at_slot (tasks past)
+      ∙ any_const (is_out (outcome_of past n)) (λ t. number_eq (number t) n) (tasks past)
+      ∙ if_made (is_out (outcome_of past n)) (list_any (λ t. number_eq (number t) n) (tasks past)) (out_made config past lawful n)
+
 pub boards_tell : (config : Config) → BoardsTell config
 boards_tell config past ledger stands = record {
   next = λ worker.
@@ -156,4 +232,5 @@ boards_tell config past ledger stands = record {
       ap (λ board. count_by (is_awaited session) board + length (drop 256 (due_for ledger.due session))) stands.undone
       ∙ ap (λ due. count_by (is_awaited session) (map (as_wanted past) (undone_slots past)) + length (drop 256 due)) (stands.due session)
       ∙ still_outstanding past session alive;
+  out = λ number lawful. ap (list_any (names_out past number)) stands.undone ∙ still_out past number config lawful;
 }

@@ -1,27 +1,21 @@
 -- Chains of backups stay short: by what is put where it isn't too deep, by what is taken out, and by Flushes.
 use Rattle.std.proofs.Common.{◌≡◌, ℕ, zero, suc, ◌+◌, ◌≤◌, Bool, true, false, List, [], ◌∷◌, length, Some, None, Option, refl, sym, ap, ◌∙◌, arith, inl, inr, ◌⊎◌}
-use Rattle.std.specs.Prelude.{◌-◌, not, ◌&&◌, ◌||◌, cond, filter, find, fold, max, nat_le, nat_lt, option_and_then, if◌then◌else◌}
+use Rattle.std.specs.Prelude.{◌-◌, ◌||◌, cond, find, fold, max, nat_le, nat_lt, option_and_then, if◌then◌else◌}
 use Rattle.std.specs.List.{list_all, list_any}
 use Rattle.std.proofs.lemmas.Bool.Decides.{nat_tests}
-use Rattle.std.proofs.lemmas.List.Folds.{list_all-append}
-use Rattle.table_model.proofs.TableLemmas.{is_before, is_after}
 use Rattle.aft_entries.specs.declared.entry.Entry.{Entry}
 use Rattle.aft_entries.specs.declared.key.Key.{Key}
 use Rattle.aft_entries.specs.Order.{key_eq}
 use Rattle.aft_entries.proofs.OrderLemmas.{key_eq_same, key_eq_symm, key_eq_refl}
 use Rattle.table_model.specs.declared.command.Which.{Which}
 use Rattle.table_model.specs.Table.{lookup, put, take_out, backup_of, names_key, chain, depth, above, is_too_deep, is_too_deep_with, is_shallow, stays, kept}
-use Rattle.table_model.proofs.Tests.{and_both, all_weaken, all_filter}
+use Rattle.table_model.proofs.Closed.{all_put, all_taken, or_left, or_right}
+use Rattle.table_model.proofs.Tests.{all_weaken, all_filter}
 use Rattle.table_model.proofs.LookupLemmas.{lookup_put_same, lookup_put_other, lookup_take_out_same, lookup_take_out_other, find_filter_in, find_filter_out}
 
 -- the group that the chain goes on to
 abbrev pub next : List Entry → Key → Option Key
 next table group = option_and_then backup_of (lookup group table)
-
-put_all : (p : Entry → Bool) (e : Entry) (table : List Entry) → list_all p table ≡ true → p e ≡ true → list_all p (put e table) ≡ true
-unfolding put
-put_all p e table h here = list_all-append p (filter (is_before e.key) table) (e ∷ filter (is_after e.key) table)
-    ∙ and_both (list_all p (filter (is_before e.key) table)) (p e && list_all p (filter (is_after e.key) table)) (all_filter p (is_before e.key) table h) (and_both (p e) (list_all p (filter (is_after e.key) table)) here (all_filter p (is_after e.key) table h))
 
 -- A table in which each key goes on as in another, or not at all, has chains no longer than that.
 
@@ -85,10 +79,6 @@ taken_goes_on : (key : Key) (table : List Entry) (k : Key) (b : Bool) → key_eq
 taken_goes_on key table k true is = inr (next_gone (take_out key table) k (ap (λ x. lookup x (take_out key table)) (key_eq_same k key is) ∙ lookup_take_out_same key table))
 taken_goes_on key table k false is = inl (next_by (take_out key table) table k (lookup_take_out_other k key table is))
 
-all_taken : (p : Entry → Bool) (key : Key) (table : List Entry) → list_all p table ≡ true → list_all p (take_out key table) ≡ true
-unfolding take_out
-all_taken p key table h = all_filter p (λ e. not (key_eq key e.key)) table h
-
 pub shallow_take_out : (key : Key) (table : List Entry) → is_shallow table ≡ true → is_shallow (take_out key table) ≡ true
 shallow_take_out key table h = shallow_fewer (take_out key table) table (λ k. taken_goes_on key table k (key_eq k key) refl) (all_taken (is_short table) key table (shallow_all table h))
 
@@ -113,7 +103,7 @@ module _ (table : List Entry) (which : Which) where
 
 -- How long a chain comes to a group.
 
-abbrev longest : (Entry → Bool) → (Entry → ℕ) → ℕ → List Entry → ℕ
+abbrev pub longest : (Entry → Bool) → (Entry → ℕ) → ℕ → List Entry → ℕ
 longest p f start table = fold (λ most e. if p e then max most (1 + f e) else most) start table
 
 longest_start : (p : Entry → Bool) (f : Entry → ℕ) (start : ℕ) (table : List Entry) → start ≤ longest p f start table
@@ -190,14 +180,6 @@ module _ (e : Entry) (table : List Entry) where
   pub own_next : next (put e table) e.key ≡ backup_of e
   own_next = ap (option_and_then backup_of) (lookup_put_same e table)
 
-  or_left : (a b : Bool) → a || b ≡ false → a ≡ false
-  or_left true b h = cc
-  or_left false b h = refl
-
-  or_right : (a b : Bool) → a || b ≡ false → b ≡ false
-  or_right true b h = cc
-  or_right false b h = h
-
   -- a chain that doesn't come to the entry is as before
   pub chain_beside : (n : ℕ) (from : Option Key) → list_any (key_eq e.key) (chain n table from) ≡ false → chain n (put e table) from ≡ chain n table from
   chain_beside zero from apart = refl
@@ -239,13 +221,10 @@ module _ (e : Entry) (table : List Entry) where
     short_from zero i k five high low = absurd (omega arith)
     short_from (suc m) i k five high low = short_step m i k five high (inl low) (λ l more up le. short_from m (suc i) l more up le)
 
-    all_put : (p : Entry → Bool) → list_all p table ≡ true → p e ≡ true → list_all p (put e table) ≡ true
-    all_put p h here = put_all p e table h here
-
     shallow_behind : is_shallow table ≡ true → is_shallow (put e table) ≡ true
     shallow_behind h =
         all_shallow (put e table)
-        (all_put (is_short (put e table))
+        (all_put (is_short (put e table)) e table
         (all_weaken (is_short table) (is_short (put e table)) table (λ x k. let short = short_le table x.key k in le_short (put e table) x.key (let le = short_from 5 0 x.key refl (omega arith) (omega arith) in omega arith)) (shallow_all table h))
         (le_short (put e table) e.key (let le = short_step 4 0 e.key refl (omega arith) (inr refl) (λ l more up low. short_from 4 1 l more up low) in omega arith)))
 
@@ -259,7 +238,7 @@ shallow_put e table fits h = by_backup (backup_of e) refl
   where
     alone : backup_of e ≡ None → is_shallow (put e table) ≡ true
     alone is = all_shallow (put e table)
-        (put_all (is_short (put e table)) e table
+        (all_put (is_short (put e table)) e table
         (all_weaken (is_short table) (is_short (put e table)) table (λ x k. let short = short_le table x.key k in let le : length (chain 5 (put e table) (Some x.key)) ≤ length (chain 5 table (Some x.key)) = fewer_groups (put e table) table (λ y. goes y (key_eq y e.key) refl) 5 (Some x.key) in le_short (put e table) x.key (omega arith)) (shallow_all table h))
         (le_short (put e table) e.key (let ends : length (chain 4 (put e table) (next (put e table) e.key)) ≡ 0 = ap (λ o. length (chain 4 (put e table) o)) (own_next e table ∙ is) in omega arith)))
       where

@@ -1,6 +1,6 @@
 -- A group is too deep exactly where the table with it has a chain that is.
 use Rattle.std.proofs.Common.{◌≡◌, ℕ, zero, suc, ◌+◌, ◌≤◌, ◌<◌, Bool, true, false, List, [], ◌∷◌, length, Some, None, Option, refl, sym, ap, ◌∙◌, arith, inl, inr, ◌⊎◌}
-use Rattle.std.specs.Prelude.{not, ◌||◌, cond, find, fold, max, nat_le, nat_lt, option_and_then, if◌then◌else◌}
+use Rattle.std.specs.Prelude.{not, ◌||◌, cond, find, max, nat_le, nat_lt, option_and_then}
 use Rattle.std.specs.List.{list_any}
 use Rattle.std.proofs.lemmas.Bool.Decides.{nat_tests}
 use Rattle.aft_entries.specs.declared.entry.Entry.{Entry}
@@ -8,7 +8,8 @@ use Rattle.aft_entries.specs.declared.key.Key.{Key}
 use Rattle.aft_entries.specs.Order.{key_eq}
 use Rattle.aft_entries.proofs.OrderLemmas.{key_eq_same, key_eq_symm, key_eq_refl}
 use Rattle.table_model.specs.Table.{lookup, put, backup_of, names_key, chain, depth, above, is_too_deep, is_too_deep_with, is_shallow, in_order}
-use Rattle.table_laws.proofs.Chains.{next, is_short, shallow_put, other_next, own_next, chain_beside, more_steps, short_le, shallow_all, found_key}
+use Rattle.table_laws.proofs.Chains.{next, longest, is_short, shallow_put, other_next, own_next, chain_beside, more_steps, short_le, shallow_all, found_key}
+use Rattle.table_laws.proofs.Whole.{or_right_true}
 use Rattle.table_laws.proofs.Members.{In, passes_in, lookup_in}
 
 -- Chains that come back don't end.
@@ -74,9 +75,6 @@ module _ (table : List Entry) (shallow : is_shallow table ≡ true) where
 
 -- The longest chain that comes to a group is that of an entry, if there is one.
 
-abbrev longest : (Entry → Bool) → (Entry → ℕ) → ℕ → List Entry → ℕ
-longest p f start table = fold (λ most e. if p e then max most (1 + f e) else most) start table
-
 record Reached (p : Entry → Bool) (f : Entry → ℕ) (most : ℕ) (table : List Entry) : Type 0 where
   pub entry : Entry
   pub there : In entry table
@@ -129,10 +127,6 @@ module _ (e : Entry) (table : List Entry) (sorted : in_order table ≡ true) (sh
             by_key (key_eq y.key e.key) refl next_is,
           )
         where
-          or_right_true : (a b : Bool) → b ≡ true → a || b ≡ true
-          or_right_true true b h = refl
-          or_right_true false b h = h
-
           by_key : (b : Bool) → key_eq y.key e.key ≡ b → next table y.key ≡ Some group → suc least ≤ length (chain (suc m) (put e table) (Some y.key))
           by_key true same next_is = absurd (no_cycle table shallow e.key group (ap (next table) (sym (key_eq_same y.key e.key same)) ∙ next_is) to_it.within to_it.comes)
           by_key false far next_is =

@@ -38,6 +38,7 @@ use Rattle.table_laws.proofs.InTurn.{Waits, in_turn}
 use Rattle.table_laws.proofs.MadeAll.{all_made}
 use Rattle.table_laws.proofs.MadeWell.{Made, AllMade, none_in}
 use Rattle.table_laws.proofs.Members.{passes_in, lookup_in}
+use Rattle.table_laws.proofs.Refused.{not_not}
 use Rattle.table_laws.proofs.Reports.{programs, done_fold, done_append, fib_is, in_order_programs, undone_not_programmed}
 use Rattle.table_laws.proofs.Turns.{Each, Pairs, each_both, Before, ascending_pairs, slot_at, Taken, taken_is}
 use Rattle.table_laws.proofs.Whole.{works, or_true, or_right_true, same_tables}
@@ -82,10 +83,6 @@ all_keys p q [] step h = refl
 all_keys p q (k ∷ keys) step h =
     and_both (q k) (list_all q keys) (step k (or_true (key_eq k k) (is_among k keys) (key_eq_refl k)) (and_left (p k) (list_all p keys) h))
     (all_keys p q keys (λ j there. step j (or_right_true (key_eq j k) (is_among j keys) there)) (and_right (p k) (list_all p keys) h))
-
-not_not : (b : Bool) → not b ≡ false → b ≡ true
-not_not true h = refl
-not_not false h = cc
 
 module _ (f : JobNumber → Outcome) where
   abbrev is_done : Task → Bool

@@ -19,14 +19,11 @@ use Rattle.table_model.proofs.Closed.{closed_put, closed_take_out, resolves_put,
 use Rattle.table_model.proofs.Tests.{and_left, and_right}
 use Rattle.table_laws.proofs.Ascending.{number, is_from, made_of}
 use Rattle.table_laws.proofs.InTurn.{Waits, WaitAhead, outcome_next, says, in_turn, next_ahead, wait_ahead, from_le, out_not_waits}
+use Rattle.table_laws.proofs.Refused.{not_not}
 use Rattle.table_laws.proofs.Reports.{fib_next, reports, out_undone}
 use Rattle.table_laws.proofs.Turns.{Each, Pairs, each_of, each_weaken, each_both, each_append, each_all, number_same, number_symm, Taken, Said}
 
 -- What a job that is done leaves to one that touches nothing of it.
-
-not_not : (b : Bool) → not b ≡ false → b ≡ true
-not_not true h = refl
-not_not false h = cc
 
 none_used : (key : Key) (table : List Entry) → list_all (λ e. not (refers e key)) table ≡ true → list_any (λ e. refers e key) table ≡ false
 none_used key [] h = refl

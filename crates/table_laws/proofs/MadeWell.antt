@@ -24,7 +24,7 @@ use Rattle.table_laws.proofs.Chains.{next, more_steps}
 use Rattle.table_laws.proofs.Deep.{ends, all_short}
 use Rattle.table_laws.proofs.Members.{In, passes_in, apart_in, tail_sorted, lookup_in}
 use Rattle.table_laws.proofs.RibLaws.{is_formed_entry}
-use Rattle.table_laws.proofs.Whole.{works, goes, left, has_left, filter_twice, filter_same, any_filter, or_true, or_right_true, all_true, chain_short}
+use Rattle.table_laws.proofs.Whole.{works, goes, left, has_left, filter_twice, filter_same, any_filter, or_true, or_right_true, all_true, chain_short, rank_low}
 
 abbrev pub Made : List Entry → Task → Type 0
 Made table t = (is_skipped table t.job.work ≡ false) × (t.before ≡ refs_before (lookup (work_key t.job.work) table))
@@ -353,16 +353,8 @@ module _ (test : Key → Bool) (old : List Entry) (sorted : in_order old ≡ tru
   at_rank : (r : ℕ) (seen rest : List Entry) → Down (suc r) seen → ((after : List Entry) → Down r after → Ordered old after rest) → Ordered old seen (of_rank r ++ rest)
   at_rank r seen rest down go = stage r old seen rest sorted (λ y there. there) (begins r seen down) go
 
-  rank_low : (e : Entry) → rank e ≤ 5
-  rank_low e = by_name e.key.name
-    where
-      by_name : (n : KeyName) → (elim n [ name.Hop index ↦ 0 | name.Group id ↦ depth old e.key | _ ↦ 5 ]) ≤ 5
-      by_name (name.Hop index) = omega arith
-      by_name (name.Group id) = let low = depth_low old e.key in omega arith
-      by_name _ = omega arith
-
   first : Down 6 []
-  first = record { went = λ y there g le. absurd (let low = rank_low y in omega arith); lower = λ y there le. refl }
+  first = record { went = λ y there g le. absurd (let low = rank_low old y in omega arith); lower = λ y there le. refl }
 
   pub in_turn : Ordered old [] (purge_order old (removed old (left test old)))
   in_turn =

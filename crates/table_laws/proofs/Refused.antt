@@ -23,7 +23,7 @@ remove_tests false true c h = cc
 remove_tests false false true h = cc
 remove_tests false false false h = refl
 
-not_not : (b : Bool) → not b ≡ false → b ≡ true
+pub not_not : (b : Bool) → not b ≡ false → b ≡ true
 not_not true h = refl
 not_not false h = cc
 

@@ -88,7 +88,7 @@ module _ {X : Type 0} where
   any_none [] = refl
   any_none (x ∷ xs) = any_none xs
 
-  any_const : (b : Bool) (q : X → Bool) (xs : List X) → list_any (λ x. b && q x) xs ≡ b && list_any q xs
+  pub any_const : (b : Bool) (q : X → Bool) (xs : List X) → list_any (λ x. b && q x) xs ≡ b && list_any q xs
   any_const true q xs = refl
   any_const false q xs = any_none xs
 
@@ -136,7 +136,7 @@ chain_short zero table from = omega arith
 chain_short (suc n) table None = omega arith
 chain_short (suc n) table (Some k) = let rest : length (chain n table (option_and_then backup_of (lookup k table))) ≤ n = chain_short n table (option_and_then backup_of (lookup k table)) in omega arith
 
-rank_low : (table : List Entry) (e : Entry) → purge_rank table e ≤ 5
+pub rank_low : (table : List Entry) (e : Entry) → purge_rank table e ≤ 5
 unfolding depth
 rank_low table e = by_name e.key.name
   where

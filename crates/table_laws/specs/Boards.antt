@@ -1,20 +1,25 @@
 -- What a board tells that stands for a history.
-use Rattle.std.specs.Prelude.{◌≡◌, ℕ, ◌+◌, true, List, length, take, drop, count_by, option_map}
+use Rattle.std.specs.Prelude.{◌≡◌, ℕ, ◌+◌, ◌&&◌, true, List, length, take, drop, count_by, option_map}
+use Rattle.std.specs.List.{list_any}
 use Rattle.table_model.specs.declared.command.Config.{Config}
+use Rattle.table_model.specs.declared.job.JobNumber.{JobNumber}
 use Rattle.table_model.specs.Event.{Event}
-use Rattle.table_model.specs.Jobs.{slots, next_task, is_clear}
+use Rattle.table_model.specs.Jobs.{slots, next_task, is_clear, number_eq, is_out, outcome_of}
+use Rattle.table_model.specs.Legal.{IsLawful}
 use Rattle.table_model.specs.Ledger.{Ledger, StandsFor, as_wanted, due_for}
 use Rattle.table_model.specs.Results.{batch, outstanding, is_awaited}
 use Rattle.table_model.specs.Sessions.{is_live}
 
--- the next job of a worker and whether it has one left, the results that a live session collects next, and what is outstanding then
-pub record Tells (workers : ℕ) (ledger : Ledger) (past : List Event) : Type 0 where
-  pub next : (worker : ℕ) → next_task workers ledger.undone worker ≡ option_map (as_wanted past) (next_task workers (slots past) worker)
-  pub clear : (worker : ℕ) → is_clear workers ledger.undone worker ≡ is_clear workers (slots past) worker
+-- the next job of a worker and whether it has one left, the results that a live session collects next and what is outstanding then, and whether a job is out
+pub record Tells (config : Config) (ledger : Ledger) (past : List Event) : Type 0 where
+  pub next : (worker : ℕ) → next_task config.workers ledger.undone worker ≡ option_map (as_wanted past) (next_task config.workers (slots past) worker)
+  pub clear : (worker : ℕ) → is_clear config.workers ledger.undone worker ≡ is_clear config.workers (slots past) worker
   pub given : (session : ℕ) → is_live past session ≡ true → take 256 (due_for ledger.due session) ≡ batch past session
   pub left : (session : ℕ) → is_live past session ≡ true
       → count_by (is_awaited session) ledger.undone + length (drop 256 (due_for ledger.due session)) ≡ outstanding past session
+  pub out : (number : JobNumber) → IsLawful config past
+      → list_any (λ slot. number_eq slot.task.job.number number && is_out slot.outcome) ledger.undone ≡ is_out (outcome_of past number)
 
 -- the undone jobs and the results that are due are enough for it
 abbrev pub BoardsTell : Config → Type 0
-BoardsTell config = (past : List Event) (ledger : Ledger) → StandsFor ledger past → Tells config.workers ledger past
+BoardsTell config = (past : List Event) (ledger : Ledger) → StandsFor ledger past → Tells config ledger past

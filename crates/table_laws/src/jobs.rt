@@ -82,7 +82,7 @@ pub fn faultless_is_same()
 {}
 
 /// The undone jobs and the results that are due tell the next job of a worker, whether it has one left, what a live
-/// session collects next, and what is outstanding then.
+/// session collects next, what is outstanding then, and whether a job is out.
 pub fn boards_tell()
     ensures { (config : Config) → BoardsTell config }
 {}
