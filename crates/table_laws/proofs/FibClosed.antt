@@ -39,11 +39,11 @@ unused_taken : (gone key : Key) (table : List Entry) → used table key ≡ fals
 unfolding used
 unused_taken gone key table free = none_used key (take_out gone table) (all_taken (λ x. not (refers x key)) gone table (not_used key table free))
 
-closed_effect : (table : List Entry) (work : Work) → is_closed table ≡ true → is_skipped table work ≡ false → is_closed (effect table work) ≡ true
+pub closed_effect : (table : List Entry) (work : Work) → is_closed table ≡ true → is_skipped table work ≡ false → is_closed (effect table work) ≡ true
 closed_effect table (Install entry) h fits = closed_put entry table h (not_not (resolves table entry) fits)
 closed_effect table (Remove key) h fits = closed_take_out key table h fits
 
-still_fits : (table : List Entry) (done other : Work) → is_among (work_key done) (work_refs other) ≡ false → is_among (work_key other) (work_refs done) ≡ false → is_skipped table other ≡ false → is_skipped (effect table done) other ≡ false
+pub still_fits : (table : List Entry) (done other : Work) → is_among (work_key done) (work_refs other) ≡ false → is_among (work_key other) (work_refs done) ≡ false → is_skipped table other ≡ false → is_skipped (effect table done) other ≡ false
 still_fits table (Install e) (Install f) one two fits = ap not (resolves_put e f table (not_not (resolves table f) fits))
 still_fits table (Remove key) (Install f) one two fits = ap not (resolves_take_out key table f (not_not (resolves table f) fits) one)
 still_fits table (Install e) (Remove key) one two fits = unused_put e key table two fits
@@ -98,10 +98,10 @@ out_or_done : (o : Outcome) → is_undone o ≡ false → is_out o ≡ true → 
 out_or_done o done out = let no_way : false ≡ true = sym done ∙ out_undone o out in cc
 
 -- of two jobs that are out neither touches the other
-abbrev OutApart : List Event → Task → Task → Type 0
+abbrev pub OutApart : List Event → Task → Task → Type 0
 OutApart past a b = is_out (outcome_of past (number a)) ≡ true → is_out (outcome_of past (number b)) ≡ true → Apart a b
 
-waits_apart : (past : List Event) (a b : Task) → Waits past a b → OutApart past a b
+pub waits_apart : (past : List Event) (a b : Task) → Waits past a b → OutApart past a b
 waits_apart past a b waits one two = apart_by a b (by_conflict (conflict a b) refl)
   where
     by_conflict : (c : Bool) → conflict a b ≡ c → c ≡ false
@@ -109,7 +109,7 @@ waits_apart past a b waits one two = apart_by a b (by_conflict (conflict a b) re
     by_conflict true meets = absurd (out_or_done (outcome_of past (number a)) (waits meets (out_not_waits (outcome_of past (number b)) two)) one)
 
 -- a job that is out can be done
-abbrev Ready : List Entry → Outcome → Task → Type 0
+abbrev pub Ready : List Entry → Outcome → Task → Type 0
 Ready table outcome task = is_out outcome ≡ true → is_skipped table task.job.work ≡ false
 
 pub record Holds (past : List Event) : Type 0 where
@@ -212,7 +212,7 @@ module _ (config : Config) where
             (new_ready (fib (e ∷ past)) e past (next_ahead config e past lawful (wait_ahead config past lawful.1)));
       }
 
-  holds : (past : List Event) → IsLawful config past → Holds past
+  pub holds : (past : List Event) → IsLawful config past → Holds past
   holds [] lawful = record { closed = ap is_closed empty; ready = none }
   holds (e ∷ past) lawful = next e past lawful (holds past lawful.1)
 

@@ -20,3 +20,4 @@ mod Deep
 mod MadeWell
 mod MadeAll
 mod Faultless
+mod InFlight

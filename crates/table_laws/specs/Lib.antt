@@ -2,3 +2,4 @@ pub mod Samples
 pub mod Examples
 pub mod Boards
 pub mod Handed
+pub mod InFlight

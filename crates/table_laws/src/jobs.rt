@@ -11,6 +11,7 @@ ghost use Rattle.table_model.specs.Laws.{AllAnswered, AnsweredOnce, JobsAscend, 
 ghost use Rattle.table_model.specs.Table.{in_order};
 ghost use Rattle.table_laws.specs.Boards.{BoardsTell};
 ghost use Rattle.table_laws.specs.Handed.{HandedWasReported};
+ghost use Rattle.table_laws.specs.InFlight.{InFlightIsClosed};
 
 /// Jobs stand in the order of their numbers, and no number names two.
 pub fn jobs_ascend()
@@ -68,6 +69,11 @@ pub fn programmed_is_there()
 /// At each event every entry's references are in the forwarding table.
 pub fn fib_is_closed()
     ensures { (config : Config) → FibIsClosed config }
+{}
+
+/// Whichever of the jobs that are out the devices have done already, each entry's references are in what they hold.
+pub fn in_flight_is_closed()
+    ensures { (config : Config) → InFlightIsClosed config }
 {}
 
 /// Where each job is programmed, the forwarding table is the table that the commands leave.

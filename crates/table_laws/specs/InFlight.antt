@@ -1,0 +1,13 @@
+-- The forwarding table while jobs are out.
+use Rattle.std.specs.Prelude.{◌≡◌, Bool, true, ◌&&◌, List, map, filter, fold}
+use Rattle.table_model.specs.declared.command.Config.{Config}
+use Rattle.table_model.specs.Event.{Event}
+use Rattle.table_model.specs.Jobs.{Task, slots, is_out, effect, fib}
+use Rattle.table_model.specs.Laws.{is_closed}
+use Rattle.table_model.specs.Legal.{IsLawful}
+
+-- whichever of the jobs that are out the devices have done already, each entry's references are in what they hold
+abbrev pub InFlightIsClosed : Config → Type 0
+InFlightIsClosed config =
+    (past : List Event) → IsLawful config past → (done : Task → Bool)
+    → is_closed (fold effect (fib past) (map (λ slot. slot.task.job.work) (filter (λ slot. is_out slot.outcome && done slot.task) (slots past)))) ≡ true
