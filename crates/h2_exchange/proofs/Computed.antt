@@ -1,6 +1,7 @@
 -- The examples compute.
-use Rattle.std.proofs.Common.{◌≡◌, true, false, [], refl}
+use Rattle.std.proofs.Common.{◌≡◌, true, false, [], length, refl, ap, arith}
 use Rattle.grpc_framing.specs.Framing.{item_at, front_at, messages_upto, messages_of}
+use Rattle.h2_exchange.specs.Samples.{response, trailers}
 use Rattle.h2_exchange.specs.Examples.{LoweredWindow, FirstFrames, StreamLife, RefusedStream, StreamNumbers, SecondHead, Stops, QuietFrames, BadHeads, SpelledCalls, SpelledAnswers, FullServer, Responses}
 
 pub lowered_window : LoweredWindow
@@ -45,17 +46,24 @@ spelled_answers = record { message = refl; end_alone = refl; flag = refl; no_tra
 pub full_server : FullServer
 full_server = record { taken = refl; refused = refl }
 
-no_truth : false ≡ true → ⊥
-no_truth e = cc
+no_lie : true ≡ false → ⊥
+no_lie e = cc
+
+-- a response head has two fields, and these trailers one
+other_length : trailers ≡ response → ⊥
+other_length e = let n : 1 ≡ 2 = ap length e in omega (arith, n)
 
 pub responses : Responses
 responses = record {
-  whole = (refl, ([], refl, (refl, refl, tt)));
-  then_reset = (refl, ([], refl, (refl, refl, tt)));
+  whole = (refl, ([], refl, (refl, refl, refl, tt)));
+  then_reset = (refl, ([], refl, (refl, refl, refl, tt)));
   unfinished = (refl, ([], refl, (refl, refl)));
   reset = (refl, ([], refl, (refl, refl)));
-  head_alone = (refl, refl, tt);
+  head_alone = (refl, refl, refl, tt);
   other_stream = refl;
-  no_head = λ h. absurd (no_truth h.0);
-  behind_the_end = λ h. h.2;
+  no_head = λ h. other_length h.0;
+  behind_the_end = λ h. h.3;
+  no_message = λ h. h;
+  no_status = λ h. no_lie h.2;
+  pseudo_trailers = λ h. no_lie h.1.2.2;
 }

@@ -14,9 +14,9 @@ use Rattle.h2_exchange.specs.Events.{Head, Data, Ended, Reset, GoneAway}
 use Rattle.h2_exchange.specs.Exchange.{Step, Received, Sent}
 use Rattle.h2_exchange.specs.Malformed.{is_malformed_head, is_malformed_trailers}
 use Rattle.h2_exchange.specs.Rules.{frame_error}
-use Rattle.h2_exchange.specs.Samples.{limits, body, settings, no_settings, initial, head_on, head, last_head, cut_head, rest_of_head, more_of_head, content, thirty_bytes, last_data, update_of_25, update, cancel, ping, goaway, field, request, response, trailers, served}
+use Rattle.h2_exchange.specs.Samples.{limits, body, settings, no_settings, initial, head_on, head, last_head, cut_head, rest_of_head, more_of_head, content, thirty_bytes, last_data, update_of_25, update, cancel, ping, goaway, field, request, response, trailers, trailers_only, served}
 use Rattle.h2_exchange.specs.Sending.{first_text}
-use Rattle.h2_exchange.specs.Spelled.{Unclosed, Trailers, Cancelled, IsResponse, parts}
+use Rattle.h2_exchange.specs.Spelled.{Unclosed, Trailers, WasReset, IsResponse, parts}
 use Rattle.h2_exchange.specs.Stops.{Stop, Error, Calm, events, stop_of}
 use Rattle.h2_exchange.specs.StreamErrors.{stream_error_of}
 use Rattle.h2_exchange.specs.Streams.{is_idle, is_live, is_open, is_over}
@@ -172,11 +172,14 @@ pub record SpelledAnswers : Type 0 where
 
 -- What a client reads of a response: a head, DATA and trailers, where a reset may follow them; and what begins no response.
 pub record Responses : Type 0 where
-  pub whole : IsResponse (parts 1 (response ∷ trailers ∷ []) (head ∷ thirty_bytes ∷ last_head ∷ [])) (replicate 30 7) (Trailers trailers)
-  pub then_reset : IsResponse (parts 1 (response ∷ trailers ∷ []) (head ∷ thirty_bytes ∷ last_head ∷ cancel ∷ [])) (replicate 30 7) (Trailers trailers)
-  pub unfinished : IsResponse (parts 1 (response ∷ []) (head ∷ thirty_bytes ∷ [])) (replicate 30 7) Unclosed
-  pub reset : IsResponse (parts 1 (response ∷ []) (head ∷ thirty_bytes ∷ cancel ∷ [])) (replicate 30 7) Cancelled
-  pub head_alone : IsResponse (parts 1 (trailers ∷ []) (last_head ∷ [])) [] (Trailers trailers)
+  pub whole : IsResponse response (parts 1 (response ∷ trailers ∷ []) (head ∷ thirty_bytes ∷ last_head ∷ [])) (replicate 30 7) (Trailers trailers)
+  pub then_reset : IsResponse response (parts 1 (response ∷ trailers ∷ []) (head ∷ thirty_bytes ∷ last_head ∷ cancel ∷ [])) (replicate 30 7) (Trailers trailers)
+  pub unfinished : IsResponse response (parts 1 (response ∷ []) (head ∷ thirty_bytes ∷ [])) (replicate 30 7) Unclosed
+  pub reset : IsResponse response (parts 1 (response ∷ []) (head ∷ thirty_bytes ∷ cancel ∷ [])) (replicate 30 7) WasReset
+  pub head_alone : IsResponse response (parts 1 (trailers_only ∷ []) (last_head ∷ [])) [] (Trailers trailers_only)
   pub other_stream : parts 3 (response ∷ []) (head ∷ thirty_bytes ∷ []) ≡ []
-  pub no_head : IsResponse (parts 1 (trailers ∷ []) (head ∷ thirty_bytes ∷ [])) (replicate 30 7) Unclosed → ⊥
-  pub behind_the_end : IsResponse (parts 1 (trailers ∷ []) (last_head ∷ thirty_bytes ∷ [])) [] (Trailers trailers) → ⊥
+  pub no_head : IsResponse response (parts 1 (trailers ∷ []) (head ∷ thirty_bytes ∷ [])) (replicate 30 7) Unclosed → ⊥
+  pub behind_the_end : IsResponse response (parts 1 (trailers_only ∷ []) (last_head ∷ thirty_bytes ∷ [])) [] (Trailers trailers_only) → ⊥
+  pub no_message : IsResponse response (parts 1 (response ∷ trailers ∷ []) (head ∷ last_head ∷ [])) [] (Trailers trailers) → ⊥
+  pub no_status : IsResponse response (parts 1 (trailers ∷ []) (last_head ∷ [])) [] (Trailers trailers) → ⊥
+  pub pseudo_trailers : IsResponse response (parts 1 (response ∷ trailers_only ∷ []) (head ∷ thirty_bytes ∷ last_head ∷ [])) (replicate 30 7) (Trailers trailers_only) → ⊥

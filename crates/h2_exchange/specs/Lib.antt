@@ -1,5 +1,6 @@
 pub mod Blocks
 pub mod Calls
+pub mod Compression
 pub mod Content
 pub mod Events
 pub mod Examples

@@ -1,6 +1,6 @@
 -- What the examples are made of.
 use native.Mathlib.Omega.{arith}
-use Rattle.std.specs.Prelude.{ℕ, ◌<◌, ◌≤◌, ◌^◌, List, [], ◌∷◌, length, replicate, codes, bytes_eq, Result, Ok, Err, if◌then◌else◌}
+use Rattle.std.specs.Prelude.{ℕ, ◌<◌, ◌≤◌, ◌^◌, List, [], ◌∷◌, ◌++◌, length, replicate, codes, bytes_eq, Result, Ok, Err, if◌then◌else◌}
 use Rattle.std.specs.List.{list_any}
 use Rattle.h2_frames.specs.declared.frame.Frame.{Frame}
 use Rattle.h2_frames.specs.declared.frame.Frame.TheVariants.{Content, Headers, RstStream, Settings, Ping, WindowUpdate, Continuation, GoAway}
@@ -84,6 +84,10 @@ response = field (codes ":status") (codes "200") ∷ field (codes "content-type"
 
 abbrev pub trailers : List Field
 trailers = field (codes "grpc-status") (codes "0") ∷ []
+
+-- head and trailers in one block
+abbrev pub trailers_only : List Field
+trailers_only = response ++ trailers
 
 -- a method is served where POST asks for it, and 405 is the refusal
 abbrev pub served : List Field → Result ℕ ℕ

@@ -12,7 +12,7 @@ use Rattle.h2_exchange.specs.Content.{Outcome, stream_error}
 use Rattle.h2_exchange.specs.Exchange.{Step, Received, Sent, received, sent}
 use Rattle.h2_exchange.specs.Frames.{stream_of, payload_of, is_settings, is_setting, is_ping, has_ack}
 use Rattle.h2_exchange.specs.Stops.{stop_of}
-use Rattle.h2_exchange.specs.Streams.{of_client, highest, is_live}
+use Rattle.h2_exchange.specs.Streams.{highest, is_live}
 use Rattle.h2_exchange.specs.Windows.{granted_on, spent_on, spent}
 
 -- ---- the first frames
@@ -55,7 +55,7 @@ acks_in fs = map frame_text (filter (λ f. (is_settings f || is_ping f) && has_a
 abbrev pub IsFront : {A : Type 0} → List A → List A → Type 0
 IsFront {A} xs ys = (more : List A) × (ys ≡ xs ++ more)
 
--- acknowledgements are sent in order, and no others
+-- Acknowledgements are sent in order, and no others. It holds at every front of an exchange, so that none comes early.
 abbrev pub AreAcknowledged : List Step → Type 0
 AreAcknowledged x = IsFront (acks_in (sent x)) (acks_for (received x))
 
@@ -72,16 +72,21 @@ pub record IsCredited (role : Role) (limits : H2Limits) (x : List Step) : Type 0
 
 -- ---- ends
 
--- GOAWAY names the greatest stream that was begun
+-- the last stream that the peer began: at a client there is none, since a server begins no streams
+abbrev pub last_begun : Role → List Step → ℕ
+last_begun Server x = highest (received x)
+last_begun Client x = 0
+
+-- GOAWAY behind these frames, which end before the one that breaks a rule: it names the last stream of the peer's
 abbrev pub goaway_text : Role → List Step → ErrorCode → List ℕ
-goaway_text role x why = text_of 7 0 0 (to_be_bytes w32 (highest (of_client role x)) ++ to_be_bytes w32 why.0)
+goaway_text role x why = text_of 7 0 0 (to_be_bytes w32 (last_begun role x) ++ to_be_bytes w32 why.0)
 
 abbrev pub reset_text : ℕ → ErrorCode → List ℕ
 reset_text id why = text_of 3 0 id (to_be_bytes w32 why.0)
 
--- Each stream error has its RST_STREAM among the frames that are sent before the next one is received.
+-- Each stream error has its RST_STREAM right behind its frame, so that no credit goes to a stream that is over.
 abbrev pub ResetsErrors : Role → H2Limits → List Outcome → List Step → Type 0
 ResetsErrors role limits heads x =
     (past behind : List Step) (f : Frame) (why : ErrorCode) → x ≡ past ++ Received f ∷ behind → stop_of role limits heads (past ++ Received f ∷ []) ≡ None →
     stream_error role limits heads past f ≡ Some why →
-    (early : List Frame) × (reset : Frame) × (more : List Step) × (behind ≡ map Sent early ++ Sent reset ∷ more) × (frame_text reset ≡ reset_text (stream_of f) why)
+    (reset : Frame) × (more : List Step) × (behind ≡ Sent reset ∷ more) × (frame_text reset ≡ reset_text (stream_of f) why)

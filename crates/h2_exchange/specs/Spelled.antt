@@ -1,14 +1,16 @@
 -- What the frames of a side spell on a stream, as its peer reads them, against what the stream is owed.
-use Rattle.std.specs.Prelude.{◌≡◌, ℕ, ◌==◌, ◌&&◌, Bool, true, false, List, [], ◌∷◌, ◌++◌, length, slice_get, Option, Some, None, bytes_eq, find, map, Ok, codes, if◌then◌else◌}
+use Rattle.std.specs.Prelude.{◌≡◌, ℕ, ◌==◌, ◌&&◌, Bool, true, false, List, [], ◌∷◌, ◌++◌, length, slice_get, Option, Some, None, map, Ok, if◌then◌else◌}
 use Rattle.grpc_framing.specs.declared.front.Front.TheVariants.{NeedMore}
 use Rattle.grpc_framing.specs.Framing.{messages_of, item}
 use Rattle.h2_frames.specs.declared.code.ErrorCode.{ErrorCode}
 use Rattle.h2_frames.specs.declared.frame.Frame.{Frame}
 use Rattle.hpack_tables.specs.declared.field.Field.{Field}
+use Rattle.h2_exchange.specs.declared.role.Role.TheVariants.{Client}
 use Rattle.h2_exchange.specs.Blocks.{Block, blocks, completed, data_of}
 use Rattle.h2_exchange.specs.Content.{AreRead}
 use Rattle.h2_exchange.specs.Exchange.{Step, sent, collect}
 use Rattle.h2_exchange.specs.Frames.{stream_of, is_data, is_rst_stream, has_end_stream, code_of}
+use Rattle.h2_exchange.specs.Malformed.{is_malformed_head, is_malformed_trailers}
 
 -- ---- the parts of a stream
 
@@ -41,9 +43,9 @@ parts id heads fs = collect (part_of id heads) [] fs
 pub data Close : Type 0 where
   Unclosed : Close
   Trailers : List Field → Close
-  Cancelled : Close
+  WasReset : Close
 
--- Behind an end stands nothing, or the reset of a stream that the client had not ended.
+-- behind an end stands nothing, or a reset
 abbrev pub IsOver : List Part → Type 0
 IsOver [] = Unit {0}
 IsOver (Stopped why ∷ []) = Unit {0}
@@ -53,27 +55,19 @@ IsOver other = ⊥
 abbrev pub IsBody : List Part → List ℕ → Close → Type 0
 IsBody [] bytes close = (bytes ≡ []) × (close ≡ Unclosed)
 IsBody (Piece piece false ∷ ps) bytes close = (more : List ℕ) × (bytes ≡ piece ++ more) × IsBody ps more close
-IsBody (Fields fields true ∷ ps) bytes close = (bytes ≡ []) × (close ≡ Trailers fields) × IsOver ps
-IsBody (Stopped why ∷ []) bytes close = (bytes ≡ []) × (close ≡ Cancelled)
+IsBody (Fields fields true ∷ ps) bytes close = (bytes ≡ []) × (close ≡ Trailers fields) × (is_malformed_trailers fields ≡ false) × IsOver ps
+IsBody (Stopped why ∷ []) bytes close = (bytes ≡ []) × (close ≡ WasReset)
 IsBody other bytes close = ⊥
 
-abbrev pub has_value : List ℕ → List ℕ → List Field → Bool
-has_value name value fields = is_value (find (λ f. bytes_eq f.name name) fields)
-  where
-    is_value : Option Field → Bool
-    is_value None = false
-    is_value (Some f) = bytes_eq f.value value
-
-abbrev pub is_response_head : List Field → Bool
-is_response_head fields = has_value (codes ":status") (codes "200") fields && has_value (codes "content-type") (codes "application/grpc") fields
-
--- A response: nothing yet, a reset, a head alone that is the end too, or a head and a body.
-abbrev pub IsResponse : List Part → List ℕ → Close → Type 0
-IsResponse [] bytes close = (bytes ≡ []) × (close ≡ Unclosed)
-IsResponse (Stopped why ∷ []) bytes close = (bytes ≡ []) × (close ≡ Cancelled)
-IsResponse (Fields fields true ∷ ps) bytes close = (bytes ≡ []) × (close ≡ Trailers fields) × IsOver ps
-IsResponse (Fields fields false ∷ ps) bytes close = (is_response_head fields ≡ true) × IsBody ps bytes close
-IsResponse other bytes close = ⊥
+-- A response: nothing yet, a reset, a head alone that is the end too, or this head and a body. Where nothing stands between
+-- head and trailers they are one block.
+abbrev pub IsResponse : List Field → List Part → List ℕ → Close → Type 0
+IsResponse head [] bytes close = (bytes ≡ []) × (close ≡ Unclosed)
+IsResponse head (Stopped why ∷ []) bytes close = (bytes ≡ []) × (close ≡ WasReset)
+IsResponse head (Fields fields true ∷ ps) bytes close = (bytes ≡ []) × (close ≡ Trailers fields) × (is_malformed_head Client fields ≡ false) × IsOver ps
+IsResponse head (Fields fields false ∷ Fields trailers true ∷ ps) bytes close = ⊥
+IsResponse head (Fields fields false ∷ ps) bytes close = (fields ≡ head) × IsBody ps bytes close
+IsResponse head other bytes close = ⊥
 
 -- ---- what is owed
 
@@ -92,21 +86,33 @@ IsFrontOf [] rest None other = rest ≡ []
 IsFrontOf [] rest (Some end) (Finish e ∷ []) = (rest ≡ []) × (end ≡ e)
 IsFrontOf [] rest (Some end) other = ⊥
 
-module _ {E : Type 0} (end_of : List Field → E) where
+-- a head stands that isn't the end
+abbrev pub has_begun : List Part → Bool
+has_begun (Fields fields false ∷ ps) = true
+has_begun other = false
+
+abbrev pub IsMessageFirst : {E : Type 0} → List (Item E) → Type 0
+IsMessageFirst (Message m ∷ items) = Unit {0}
+IsMessageFirst other = ⊥
+
+-- the head of every response, and the end that trailers say
+module _ {E : Type 0} (head : List Field) (read_end : List Field → E) where
   abbrev pub end_by : Close → Option E
-  end_by (Trailers fields) = Some (end_of fields)
+  end_by (Trailers fields) = Some (read_end fields)
   end_by other = None
 
   -- What frames spell on a stream, once their blocks are read: whole messages, a cut rest, and an end.
   pub record Spells (heads : List (List Field)) (frames : List Frame) (id : ℕ) (messages : List (List ℕ)) (rest : List ℕ) (end : Option E) : Type 0 where
     pub bytes : List ℕ
     pub close : Close
-    pub response : IsResponse (parts id heads frames) bytes close
+    pub response : IsResponse head (parts id heads frames) bytes close
     pub cut : messages_of 4294967295 bytes ≡ record { messages = messages; rest = rest; ending = NeedMore }
     pub end_is : end ≡ end_by close
 
-  -- The sent frames can be read, and spell on each stream a first part of what it is owed.
+  -- The sent frames can be read, and spell on each stream a first part of what it is owed. A head that isn't the end stands
+  -- where a message is owed first.
   abbrev pub AnswersBegin : List Step → (ℕ → List (Item E)) → Type 0
   AnswersBegin x owed =
       (heads : List (List Field)) × AreRead (sent x) (map Ok heads)
-      × ((id : ℕ) → (messages : List (List ℕ)) × (rest : List ℕ) × (end : Option E) × Spells heads (sent x) id messages rest end × IsFrontOf messages rest end (owed id))
+      × ((id : ℕ) → (messages : List (List ℕ)) × (rest : List ℕ) × (end : Option E) × Spells heads (sent x) id messages rest end × IsFrontOf messages rest end (owed id)
+        × (has_begun (parts id heads (sent x)) ≡ true → IsMessageFirst (owed id)))

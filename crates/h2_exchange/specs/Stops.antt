@@ -34,7 +34,8 @@ abbrev pub block_stop : Option Block → Option Stop
 block_stop None = None
 block_stop (Some b) = first_broken ((nat_lt 65536 (length b.text), Calm HeaderBytes) ∷ (nat_lt 64 b.frames, Calm HeaderFrames) ∷ [])
 
--- a list that is too long, or another fault of the block (RFC 9113, section 4.3)
+-- A list that is too long, or another fault of the block (RFC 9113, section 4.3). Where this side allows less than the
+-- 65,536 bytes at which a block is refused, a fault comes before a list that is longer than it allows: the whole list decides.
 abbrev pub content_stop : H2Limits → ℕ → Option Outcome → Option Stop
 content_stop limits place None = None
 content_stop limits place (Some (Ok fields)) = if nat_lt limits.list (sum_by size_of fields) then Some (Calm HeaderList) else None
@@ -76,7 +77,8 @@ module _ (role : Role) (limits : H2Limits) (heads : List Outcome) where
       ends_block None = false
       ends_block (Some b) = b.last
 
-  -- the client ends a call, with a frame that is no stream error
+  -- The client ends a call, with a frame that is no stream error. At a server the stream is live then: an end on a stream
+  -- that is over ends no call.
   abbrev pub ends_call : Role → List Step → Step → Bool
   ends_call Server past (Received f) =
       is_end (received past) f && is_live_at role past f (stream_of f) && not (is_some (stream_error role limits heads past f))

@@ -26,10 +26,6 @@ setting number first settings = fold (λ value s. if s.0 == number then s.1 else
 abbrev pub initial_window : List Frame → ℕ
 initial_window fs = setting 4 65535 (flat_map settings_in fs)
 
--- HEADER_TABLE_SIZE as the frames of a side leave it
-abbrev pub header_table_size : List Frame → ℕ
-header_table_size fs = setting 1 4096 (flat_map settings_in fs)
-
 -- ---- windows
 
 -- what the DATA of a side counted, on one stream and on all
