@@ -1,8 +1,10 @@
 -- The examples compute.
-use Rattle.std.proofs.Common.{◌≡◌, true, false, [], length, refl, ap, arith}
+use Rattle.std.proofs.Common.{◌≡◌, true, false, ℕ, List, [], length, take, refl, ap, arith, inl, inr}
+use Rattle.std.specs.Prelude.{slice_index}
+use Rattle.h2_frames.specs.Stream.{preface}
 use Rattle.grpc_framing.specs.Framing.{item_at, front_at, messages_upto, messages_of}
 use Rattle.h2_exchange.specs.Samples.{response, trailers}
-use Rattle.h2_exchange.specs.Examples.{LoweredWindow, FirstFrames, StreamLife, RefusedStream, StreamNumbers, SecondHead, Stops, QuietFrames, BadHeads, SpelledCalls, SpelledAnswers, FullServer, Responses}
+use Rattle.h2_exchange.specs.Examples.{LoweredWindow, FirstFrames, StreamLife, RefusedStream, StreamNumbers, SecondHead, Stops, RestStops, BlockLimits, CutRequests, bad_preface, QuietFrames, BadHeads, SpelledCalls, SpelledAnswers, FullServer, Responses}
 
 pub lowered_window : LoweredWindow
 lowered_window = record { ten = refl; below_zero = refl; nothing = refl; five = refl }
@@ -27,6 +29,27 @@ second_head = record { no_end = refl; as_trailers = refl; in_two_frames = refl; 
 pub stops : Stops
 unfolding item_at front_at messages_upto messages_of
 stops = record { no_settings_first = refl; half_a_setting = refl; data_on_idle = refl; update_of_nothing = refl; large_update = refl; bad_index = refl; long_list = refl; lone_continuation = refl; inside_a_block = refl; long_padding = refl; large_window = refl; push_promise = refl; many_frames = refl; enough_frames = refl; raised_window = refl; nothing = refl }
+
+-- its twelfth byte is another one
+no_preface : take 24 bad_preface ≡ take (length bad_preface) preface → ⊥
+no_preface e = let n : 49 ≡ 50 = ap (λ (l : List ℕ). slice_index l 11) e in omega (arith, n)
+
+pub rest_stops : RestStops
+rest_stops = record {
+  preface_is_none = inr (refl, inl (no_preface, refl, refl));
+  long_length = inr (refl, inr (refl, (omega arith, omega arith), refl, refl));
+}
+
+pub block_limits : BlockLimits
+block_limits = record {
+  full = λ b text frames. rw (text, frames) refl;
+  long = λ b text. rw text refl;
+  many = λ b text frames. rw (text, frames) refl;
+}
+
+pub cut_requests : CutRequests
+unfolding item_at front_at messages_upto messages_of
+cut_requests = record { one = refl; two = refl; sent_too = refl; one_stream_twice = refl; after_an_end = refl; end_of_a_dead_stream = refl; whole_request = refl }
 
 pub quiet_frames : QuietFrames
 unfolding item_at front_at messages_upto messages_of

@@ -1,3 +1,4 @@
+pub mod Compressing
 pub mod Computed
 pub mod Looking
 pub mod Ordering

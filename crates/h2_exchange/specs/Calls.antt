@@ -98,11 +98,12 @@ module _ {E : Type 0} (status_of : List Field → E) (unknown : E) where
   closes id TooLong = Closed id unknown ∷ []
   closes id other = []
 
-  abbrev pub end_of : Event → List (Answer E)
-  end_of (Head id fields last) = if last then Closed id (status_of fields) ∷ [] else []
-  end_of (Ended id) = Closed id unknown ∷ []
-  end_of (Reset id why) = Closed id unknown ∷ []
-  end_of other = []
+  -- what an event gives that ends the call
+  abbrev pub ending_answers : Event → List (Answer E)
+  ending_answers (Head id fields last) = if last then Closed id (status_of fields) ∷ [] else []
+  ending_answers (Ended id) = Closed id unknown ∷ []
+  ending_answers (Reset id why) = Closed id unknown ∷ []
+  ending_answers other = []
 
   abbrev pub stream_at : Event → ℕ
   stream_at (Head id fields last) = id
@@ -114,7 +115,7 @@ module _ {E : Type 0} (status_of : List Field → E) (unknown : E) where
   abbrev pub answers_with : List Event → Event → List (Answer E)
   answers_with past (Data id bytes) =
       map (Answered id) (further (bytes_on id past) bytes) ++ closes id (cut (bytes_on id past ++ bytes)).ending
-  answers_with past other = end_of other
+  answers_with past other = ending_answers other
 
   -- what an event gives, in the light of those before it
   abbrev pub answers_of : List Event → Event → List (Answer E)

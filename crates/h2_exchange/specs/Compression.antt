@@ -1,12 +1,18 @@
 -- The header blocks that a side sends: one encoder writes them all, under the table sizes that its peer announces
 -- (RFC 7541, section 4.2; RFC 9113, section 4.3.1).
-use Rattle.std.specs.Prelude.{◌≡◌, ℕ, ◌==◌, List, [], ◌∷◌, ◌++◌, fold, Option, Some, None, if◌then◌else◌}
+use Rattle.std.specs.Prelude.{◌≡◌, ◌≤◌, ◌==◌, sum_by, List, [], ◌∷◌, ◌++◌, fold, Option, Some, None, if◌then◌else◌}
 use Rattle.h2_frames.specs.declared.frame.Frame.{Frame}
 use Rattle.hpack_tables.specs.declared.field.Field.{Field}
+use Rattle.hpack_tables.specs.Laws.{AreBytes}
+use Rattle.hpack_tables.specs.Room.{size_of}
 use Rattle.hpack_tables.specs.Writing.{Encoder, Writes, limited}
 use Rattle.h2_exchange.specs.Blocks.{Block, completed}
 use Rattle.h2_exchange.specs.Exchange.{Step, Received, Sent, sent}
 use Rattle.h2_exchange.specs.Windows.{settings_in}
+
+-- fields that a reader takes: their names and values are bytes, and their sizes are at most 65,536 together
+abbrev pub IsWritable : List Field → Type 0
+IsWritable fields = AreBytes fields × (sum_by size_of fields ≤ 65536)
 
 -- each HEADER_TABLE_SIZE of a received frame bounds the encoder's table
 abbrev pub limited_by : Frame → Encoder → Encoder

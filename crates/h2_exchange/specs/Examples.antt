@@ -1,23 +1,26 @@
 -- Small exchanges, by the definitions.
 use native.Mathlib.Omega.{arith}
-use Rattle.std.specs.Prelude.{◌≡◌, ℕ, zero, suc, ◌+◌, ◌*◌, ◌%◌, ◌^◌, true, false, negsuc, List, [], ◌∷◌, ◌++◌, length, replicate, codes, Option, Some, None, Ok, Err}
+use Rattle.std.specs.Prelude.{◌≡◌, ℕ, zero, suc, ◌+◌, ◌*◌, ◌%◌, ◌^◌, Bool, true, false, negsuc, List, [], ◌∷◌, ◌++◌, length, replicate, codes, Option, Some, None, Ok, Err}
 use Rattle.h2_frames.specs.declared.code.TheConstants.ErrorCode as code
 use Rattle.h2_frames.specs.declared.frame.Frame.{Frame}
 use Rattle.h2_frames.specs.declared.frame.Frame.TheVariants.{Content, Headers, Settings, PushPromise}
 use Rattle.h2_frames.specs.declared.frame.FrameBody.{FrameBody}
+use Rattle.h2_frames.specs.Layout.{frame_text}
+use Rattle.h2_frames.specs.Stream.{preface}
 use Rattle.hpack_tables.specs.declared.fault.HpackFault.TheVariants as fault
 use Rattle.h2_exchange.specs.declared.limits.CalmCause.TheVariants as cause
 use Rattle.h2_exchange.specs.declared.role.Role.TheVariants.{Client, Server}
+use Rattle.h2_exchange.specs.Blocks.{Block}
 use Rattle.h2_exchange.specs.Calls.{Begun, Request, Finished, Dropped, Declined, Answered, Closed, calls, answers}
 use Rattle.h2_exchange.specs.Content.{Outcome}
 use Rattle.h2_exchange.specs.Events.{Head, Data, Ended, Reset, GoneAway}
 use Rattle.h2_exchange.specs.Exchange.{Step, Received, Sent}
 use Rattle.h2_exchange.specs.Malformed.{is_malformed_head, is_malformed_trailers}
 use Rattle.h2_exchange.specs.Rules.{frame_error}
-use Rattle.h2_exchange.specs.Samples.{limits, body, settings, no_settings, initial, head_on, head, last_head, cut_head, rest_of_head, more_of_head, content, thirty_bytes, last_data, update_of_25, update, cancel, ping, goaway, field, request, response, trailers, trailers_only, served}
+use Rattle.h2_exchange.specs.Samples.{limits, body, settings, no_settings, initial, head_on, head, last_head, cut_head, rest_of_head, more_of_head, content, thirty_bytes, last_data, update_of_25, update, cancel, cancel_on, empty_message, ping, goaway, field, request, response, trailers, trailers_only, served}
 use Rattle.h2_exchange.specs.Sending.{first_text}
 use Rattle.h2_exchange.specs.Spelled.{Unclosed, Trailers, WasReset, IsResponse, parts}
-use Rattle.h2_exchange.specs.Stops.{Stop, Error, Calm, events, stop_of}
+use Rattle.h2_exchange.specs.Stops.{Stop, Error, Calm, block_stop, has_resets_past, events, stop_of, IsBroken}
 use Rattle.h2_exchange.specs.StreamErrors.{stream_error_of}
 use Rattle.h2_exchange.specs.Streams.{is_idle, is_live, is_open, is_over}
 use Rattle.h2_exchange.specs.Windows.{stream_window, may_send}
@@ -126,6 +129,40 @@ pub record Stops : Type 0 where
   pub enough_frames : stop_of Server (limits 100) [] (Received no_settings ∷ Received cut_head ∷ replicate 63 (Received more_of_head)) ≡ None
   pub raised_window : stop_of Server (limits 100) (Ok request ∷ []) (begun ++ Received update_of_25 ∷ Received (settings (0 ∷ 4 ∷ 127 ∷ 255 ∷ 255 ∷ 255 ∷ []) (omega arith)) ∷ []) ≡ Some (Error code.FLOW_CONTROL_ERROR 55)
   pub nothing : stop_of Server (limits 100) (Ok request ∷ []) (begun ++ Received ping ∷ Received goaway ∷ []) ≡ None
+
+-- What the bytes break that are no frame: a preface that is none, and a length of 16,385.
+abbrev pub bad_preface : List ℕ
+bad_preface = codes "PRI * HTTP/1.1"
+
+abbrev pub long_frame : List ℕ
+long_frame = 0 ∷ 64 ∷ 1 ∷ 11 ∷ 0 ∷ 0 ∷ 0 ∷ 0 ∷ 0 ∷ []
+
+pub record RestStops : Type 0 where
+  pub preface_is_none : IsBroken Server (limits 100) [] bad_preface [] bad_preface code.PROTOCOL_ERROR 0
+  pub long_length : IsBroken Server (limits 100) [] (preface ++ frame_text no_settings ++ long_frame) (Received no_settings ∷ []) long_frame code.FRAME_SIZE_ERROR 33
+
+-- A block may have 65,536 bytes and 64 frames, and no more.
+pub record BlockLimits : Type 0 where
+  pub full : (b : Block) → length b.text ≡ 65536 → b.frames ≡ 64 → block_stop (Some b) ≡ None
+  pub long : (b : Block) → length b.text ≡ 65537 → block_stop (Some b) ≡ Some (Calm cause.HeaderBytes)
+  pub many : (b : Block) → length b.text ≡ 65536 → b.frames ≡ 65 → block_stop (Some b) ≡ Some (Calm cause.HeaderFrames)
+
+-- Requests that are cut off, where one such is allowed: begun and at once reset; one more for each call that the client
+-- ended; none where a whole request stood on the stream, or where the stream was over.
+abbrev pub cut_calls : List Step
+cut_calls = begun ++ Received cancel ∷ Received (head_on 3 (omega arith)) ∷ []
+
+abbrev pub resets_past_one : List Step → Bool
+resets_past_one x = has_resets_past Server (limits 100) (Ok request ∷ Ok request ∷ []) 1 x
+
+pub record CutRequests : Type 0 where
+  pub one : resets_past_one cut_calls ≡ false
+  pub two : resets_past_one (cut_calls ++ Received (cancel_on 3 (omega arith)) ∷ []) ≡ true
+  pub sent_too : resets_past_one (cut_calls ++ Sent (cancel_on 3 (omega arith)) ∷ []) ≡ true
+  pub one_stream_twice : resets_past_one (cut_calls ++ Received cancel ∷ []) ≡ false
+  pub after_an_end : resets_past_one (begun ++ Received last_data ∷ Received cancel ∷ Received (head_on 3 (omega arith)) ∷ Received (cancel_on 3 (omega arith)) ∷ []) ≡ false
+  pub end_of_a_dead_stream : resets_past_one (cut_calls ++ Received last_data ∷ Received (cancel_on 3 (omega arith)) ∷ []) ≡ true
+  pub whole_request : resets_past_one (begun ++ Received empty_message ∷ Received cancel ∷ Received (head_on 3 (omega arith)) ∷ Received (cancel_on 3 (omega arith)) ∷ []) ≡ false
 
 -- What is given of frames that a side need not mind.
 pub record QuietFrames : Type 0 where

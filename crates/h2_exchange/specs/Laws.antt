@@ -1,14 +1,17 @@
 -- Laws over exchanges that go on.
-use Rattle.std.specs.Prelude.{◌≡◌, ◌<◌, ◌≤◌, length, ℕ, ◌+◌, ◌&&◌, ◌||◌, true, false, List, [], ◌∷◌, ◌++◌, Some, None, option_to_list, Result, if◌then◌else◌, ◌==◌}
+use Rattle.std.specs.Prelude.{◌≡◌, ◌<◌, ◌≤◌, length, ℕ, ◌+◌, ◌&&◌, ◌||◌, true, false, List, [], ◌∷◌, ◌++◌, Some, None, option_to_list, map, All, Result, Ok, if◌then◌else◌, ◌==◌}
 use Rattle.h2_frames.specs.declared.frame.Frame.{Frame}
+use Rattle.hpack_tables.specs.declared.encoder.Style.{Style}
 use Rattle.hpack_tables.specs.declared.field.Field.{Field}
+use Rattle.hpack_tables.specs.Writing.{Encoder, fresh}
 use Rattle.h2_exchange.specs.declared.limits.H2Limits.{H2Limits}
 use Rattle.h2_exchange.specs.declared.role.Role.{Role}
 use Rattle.h2_exchange.specs.Blocks.{open_block, blocks, left_open, completed}
 use Rattle.h2_exchange.specs.Calls.{calls, answers}
-use Rattle.h2_exchange.specs.Content.{Outcome}
+use Rattle.h2_exchange.specs.Compression.{IsWritable, AreWritten}
+use Rattle.h2_exchange.specs.Content.{Outcome, AreRead}
 use Rattle.h2_exchange.specs.Events.{Event, events_of}
-use Rattle.h2_exchange.specs.Exchange.{Step, received, sent_text}
+use Rattle.h2_exchange.specs.Exchange.{Step, received, sent, sent_text}
 use Rattle.h2_exchange.specs.Frames.{stream_of, is_window_update, increment_of, counted}
 use Rattle.h2_exchange.specs.Order.{Piece, gots, puts, end_of, due_from_peer, due_from_self, InOrder}
 use Rattle.h2_exchange.specs.Sending.{IsFront}
@@ -57,6 +60,11 @@ pub record WindowsAdd : Type 0 where
 pub record BlocksAdd : Type 0 where
   pub open_push : (fs : List Frame) (f : Frame) → open_block (fs ++ f ∷ []) ≡ left_open (open_block fs) f
   pub blocks_push : (fs : List Frame) (f : Frame) → blocks (fs ++ f ∷ []) ≡ blocks fs ++ option_to_list (completed fs f)
+
+-- what one encoder wrote, under the table sizes that its peer announced, is what the peer reads
+abbrev pub WrittenBlocksAreRead : Type 0
+WrittenBlocksAreRead =
+    (style : Style) (x : List Step) (lists : List (List Field)) (last : Encoder) → All IsWritable lists → AreWritten (fresh style) [] x lists last → AreRead (sent x) (map Ok lists)
 
 -- The order of received and sent frames lasts: through a further call of the link, where all received frames were given
 -- before it, and through further frames, where all that was placed was sent before them.

@@ -62,8 +62,15 @@ update_of_25 = WindowUpdate (body 0 1 (0 ∷ 0 ∷ 0 ∷ 25 ∷ []) (omega arith
 abbrev pub update : (stream : ℕ) (payload : List ℕ) → stream < 2 ^ 31 → length payload ≤ 16384 → Frame
 update stream payload p q = WindowUpdate (body 0 stream payload p q)
 
+abbrev pub cancel_on : (stream : ℕ) → stream < 2 ^ 31 → Frame
+cancel_on stream p = RstStream (body 0 stream (0 ∷ 0 ∷ 0 ∷ 8 ∷ []) p (omega arith))
+
 abbrev pub cancel : Frame
-cancel = RstStream (body 0 1 (0 ∷ 0 ∷ 0 ∷ 8 ∷ []) (omega arith) (omega arith))
+cancel = cancel_on 1 (omega arith)
+
+-- a whole message of no bytes
+abbrev pub empty_message : Frame
+empty_message = content 0 (replicate 5 0) (omega arith)
 
 abbrev pub ping : Frame
 ping = Ping (body 0 0 (replicate 8 0) (omega arith) (omega arith))

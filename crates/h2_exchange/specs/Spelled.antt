@@ -115,4 +115,4 @@ module _ {E : Type 0} (head : List Field) (read_end : List Field → E) where
   AnswersBegin x owed =
       (heads : List (List Field)) × AreRead (sent x) (map Ok heads)
       × ((id : ℕ) → (messages : List (List ℕ)) × (rest : List ℕ) × (end : Option E) × Spells heads (sent x) id messages rest end × IsFrontOf messages rest end (owed id)
-        × (has_begun (parts id heads (sent x)) ≡ true → IsMessageFirst (owed id)))
+      × (has_begun (parts id heads (sent x)) ≡ true → IsMessageFirst (owed id)))

@@ -55,42 +55,47 @@ frame_stop role limits heads past f =
 
 -- ---- resets
 
-module _ (role : Role) (limits : H2Limits) (heads : List Outcome) where
+-- a frame of one side that ends its side of a stream
+abbrev pub is_end : List Frame → Frame → Bool
+is_end past f = is_data f && has_end_stream f || ends_block (completed past f)
+  where
+    ends_block : Option Block → Bool
+    ends_block None = false
+    ends_block (Some b) = b.last
+
+abbrev pub count_steps : (List Step → Step → Bool) → List Step → ℕ
+count_steps test x = length (collect (λ past s. if test past s then s ∷ [] else []) [] x)
+
+module _ (limits : H2Limits) (heads : List Outcome) where
   -- the bytes of requests on a stream, which the client sends
   abbrev pub request_bytes : Role → List Step → ℕ → List ℕ
-  request_bytes Server past id = bytes_on id (all_events role limits heads past)
+  request_bytes Server past id = bytes_on id (all_events Server limits heads past)
   request_bytes Client past id = flat_map (λ f. if is_data f && stream_of f == id then data_of f else []) (sent past)
 
+  -- The client ends a call, with a frame that is no stream error. At a server the stream is live then: an end on a stream
+  -- that is over ends no call.
+  abbrev pub ends_call : Role → List Step → Step → Bool
+  ends_call Server past (Received f) =
+      is_end (received past) f && is_live_at Server past f (stream_of f) && not (is_some (stream_error Server limits heads past f))
+  ends_call Client past (Sent f) = is_end (sent past) f
+  ends_call other past s = false
+
+module _ (role : Role) (limits : H2Limits) (heads : List Outcome) where
   abbrev pub has_request : List Step → ℕ → Bool
-  has_request past id = nat_lt 0 (length (messages_of 4194304 (request_bytes role past id)).messages)
+  has_request past id = nat_lt 0 (length (messages_of 4194304 (request_bytes limits heads role past id)).messages)
 
   -- RST_STREAM, received on a live stream or sent on one that was begun, before a whole request message stood on it
   abbrev pub cuts_request : List Step → Step → Bool
   cuts_request past (Received f) = is_rst_stream f && is_live role past (stream_of f) && not (has_request past (stream_of f))
   cuts_request past (Sent f) = is_rst_stream f && is_begun role past (stream_of f) && not (has_request past (stream_of f))
 
-  -- a frame of one side that ends its side of a stream
-  abbrev pub is_end : List Frame → Frame → Bool
-  is_end past f = is_data f && has_end_stream f || ends_block (completed past f)
-    where
-      ends_block : Option Block → Bool
-      ends_block None = false
-      ends_block (Some b) = b.last
+  -- more requests were cut off than so many and the calls that the client ended
+  abbrev pub has_resets_past : ℕ → List Step → Bool
+  has_resets_past allowed x = nat_lt (allowed + count_steps (ends_call limits heads role) x) (count_steps cuts_request x)
 
-  -- The client ends a call, with a frame that is no stream error. At a server the stream is live then: an end on a stream
-  -- that is over ends no call.
-  abbrev pub ends_call : Role → List Step → Step → Bool
-  ends_call Server past (Received f) =
-      is_end (received past) f && is_live_at role past f (stream_of f) && not (is_some (stream_error role limits heads past f))
-  ends_call Client past (Sent f) = is_end (sent past) f
-  ends_call other past s = false
-
-  abbrev pub count_steps : (List Step → Step → Bool) → List Step → ℕ
-  count_steps test x = length (collect (λ past s. if test past s then s ∷ [] else []) [] x)
-
-  -- more requests were cut off than 1,000 and the calls that the client ended
+  -- the limit is 1,000
   abbrev pub has_many_resets : List Step → Bool
-  has_many_resets x = nat_lt (1000 + count_steps (ends_call role) x) (count_steps cuts_request x)
+  has_many_resets x = has_resets_past 1000 x
 
   -- ---- the whole exchange
 

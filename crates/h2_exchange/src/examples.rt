@@ -36,6 +36,21 @@ pub fn the_first_broken_rule_stops()
     ensures { example.Stops }
 {}
 
+/// Bytes that stop an exchange and are no frame.
+pub fn bytes_that_are_no_frame_stop()
+    ensures { example.RestStops }
+{}
+
+/// How large a header block may be.
+pub fn header_blocks_are_bounded()
+    ensures { example.BlockLimits }
+{}
+
+/// Which resets count against a client.
+pub fn cut_requests_are_counted()
+    ensures { example.CutRequests }
+{}
+
 /// Frames that give nothing, or are given as they stand.
 pub fn frames_of_other_streams_are_ignored()
     ensures { example.QuietFrames }

@@ -1,5 +1,5 @@
 //! Laws over exchanges that go on.
-ghost use Rattle.h2_exchange.specs.Laws.{AnswersStay, BlocksAdd, CallsStay, EventsGoOn, EventsStay, OrderLasts, StopsStay, StreamsEnd, WindowsAdd};
+ghost use Rattle.h2_exchange.specs.Laws.{AnswersStay, BlocksAdd, CallsStay, EventsGoOn, EventsStay, OrderLasts, StopsStay, StreamsEnd, WindowsAdd, WrittenBlocksAreRead};
 
 /// The events of an exchange begin those of the exchange that goes on.
 pub fn events_stay()
@@ -39,6 +39,11 @@ pub fn windows_add()
 /// What one more frame does to header blocks.
 pub fn blocks_add()
     ensures { BlocksAdd }
+{}
+
+/// The header blocks that one encoder wrote are read by the peer as their fields.
+pub fn written_blocks_are_read()
+    ensures { WrittenBlocksAreRead }
 {}
 
 /// The order of received and sent frames lasts.
