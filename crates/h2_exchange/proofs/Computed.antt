@@ -3,8 +3,8 @@ use Rattle.std.proofs.Common.{◌≡◌, true, false, ℕ, List, [], length, tak
 use Rattle.std.specs.Prelude.{slice_index}
 use Rattle.h2_frames.specs.Stream.{preface}
 use Rattle.grpc_framing.specs.Framing.{item_at, front_at, messages_upto, messages_of}
-use Rattle.h2_exchange.specs.Samples.{response, trailers}
-use Rattle.h2_exchange.specs.Examples.{LoweredWindow, FirstFrames, StreamLife, RefusedStream, StreamNumbers, SecondHead, Stops, RestStops, BlockLimits, CutRequests, bad_preface, QuietFrames, BadHeads, SpelledCalls, SpelledAnswers, FullServer, Responses}
+use Rattle.h2_exchange.specs.Samples.{request, response, trailers}
+use Rattle.h2_exchange.specs.Examples.{LoweredWindow, FirstFrames, StreamLife, RefusedStream, StreamNumbers, SecondHead, Stops, RestStops, BlockLimits, CutRequests, bad_preface, QuietFrames, BadHeads, SpelledCalls, SpelledAnswers, FullServer, Responses, Requests, LastStreams}
 
 pub lowered_window : LoweredWindow
 lowered_window = record { ten = refl; below_zero = refl; nothing = refl; five = refl }
@@ -60,7 +60,7 @@ bad_heads = record { request_is_sound = refl; response_is_sound = refl; no_metho
 
 pub spelled_calls : SpelledCalls
 unfolding item_at front_at messages_upto messages_of
-spelled_calls = record { two_messages = refl; cut_message = refl; flag = refl; long_message = refl; refused_head = refl; reset = refl }
+spelled_calls = record { two_messages = refl; cut_message = refl; flag = refl; long_message = refl; refused_head = refl; reset = refl; shown_refusal = refl; hidden_refusal = refl }
 
 pub spelled_answers : SpelledAnswers
 unfolding item_at front_at messages_upto messages_of
@@ -90,3 +90,18 @@ responses = record {
   no_status = λ h. no_lie h.2;
   pseudo_trailers = λ h. no_lie h.1.2.2;
 }
+
+other_request : response ≡ request → ⊥
+other_request e = let n : 2 ≡ 5 = ap length e in omega (arith, n)
+
+pub requests : Requests
+requests = record {
+  whole = (refl, ([], refl, (refl, refl, tt)));
+  then_reset = (refl, ([], refl, (refl, refl, tt)));
+  cut_off = (refl, ([], refl, (refl, refl)));
+  other_head = λ h. other_request h.0;
+  trailers_behind = λ h. h.1;
+}
+
+pub last_streams : LastStreams
+last_streams = record { server = refl; before_the_break = refl; client = refl }

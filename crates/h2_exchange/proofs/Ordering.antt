@@ -18,7 +18,7 @@ module _ {A : Type 0} where
   same_cells a b xs ys e = (cc, cc)
 
   -- a list with one more cell is cut behind it or before it
-  cut_push : (ps : List A) (p : A) (early late : List A) → ps ++ p ∷ [] ≡ early ++ late → (late ≡ []) ⊎ ((rest : List A) × (ps ≡ early ++ rest))
+  pub cut_push : (ps : List A) (p : A) (early late : List A) → ps ++ p ∷ [] ≡ early ++ late → (late ≡ []) ⊎ ((rest : List A) × (ps ≡ early ++ rest))
   cut_push ps p [] late e = inr (ps, refl)
   cut_push [] p (a ∷ early) late e = inl (nothing_left early late (same_cells p a [] (early ++ late) e).1)
     where

@@ -4,11 +4,11 @@ use Rattle.std.specs.Option.{option_or}
 use Rattle.std.proofs.lemmas.List.{append-nil}
 use Rattle.h2_exchange.specs.declared.limits.H2Limits.{H2Limits}
 use Rattle.h2_exchange.specs.declared.role.Role.{Role}
-use Rattle.h2_exchange.specs.Calls.{calls_of, answers_of}
+use Rattle.h2_exchange.specs.Calls.{shown_of, calls_of, answers_of}
 use Rattle.h2_exchange.specs.Content.{Outcome}
 use Rattle.h2_exchange.specs.Events.{events_of, all_events}
 use Rattle.h2_exchange.specs.Exchange.{Step, collect, front_before, first_given}
-use Rattle.h2_exchange.specs.Laws.{EventsStay, StopsStay, EventsGoOn, CallsStay, AnswersStay}
+use Rattle.h2_exchange.specs.Laws.{EventsStay, StopsStay, EventsGoOn, CallsStay, ShownStay, AnswersStay}
 use Rattle.h2_exchange.specs.Sending.{IsFront}
 use Rattle.h2_exchange.specs.Stops.{Stop, stop_at, stop_of, events}
 use Rattle.h2_exchange.proofs.Looking.{collect_more, collect_push, front_stays, front_goes_on, front_whole, given_more}
@@ -65,3 +65,6 @@ calls_stay method_of compressed too_long truncated es more =
 
 pub answers_stay : {E : Type 0} → AnswersStay E
 answers_stay status_of unknown es more = (collect (answers_of status_of unknown) es more, collect_more (answers_of status_of unknown) [] es more)
+
+pub shown_stay : {M E : Type 0} → ShownStay M E
+shown_stay cs more = (collect shown_of cs more, collect_more shown_of [] cs more)

@@ -39,6 +39,22 @@ pub data Call (M E : Type 0) : Type 0 where
   Dropped : (stream : ℕ) → Call M E
   Declined : (stream : ℕ) (answer : E) → Call M E
 
+-- ---- what the layer above is shown
+
+abbrev is_begun_call : {M E : Type 0} → ℕ → Call M E → Bool
+is_begun_call id (Begun stream method) = stream == id
+is_begun_call id other = false
+
+-- A refusal is shown as a drop where the call had begun, and else not at all.
+abbrev pub shown_of : {M E : Type 0} → List (Call M E) → Call M E → List (Call M E)
+shown_of past (Declined id answer) = if list_any (is_begun_call id) past then Dropped id ∷ [] else []
+shown_of past other = other ∷ []
+
+abbrev pub shown : {M E : Type 0} → List (Call M E) → List (Call M E)
+shown cs = collect shown_of [] cs
+
+-- ---- how events spell calls
+
 -- What heads and framing decide: the method of a head or its refusal, and the refusals of a stream's bytes.
 module _ {M E : Type 0} (method_of : List Field → Result M E) (compressed too_long truncated : E) where
   abbrev is_begun_on : ℕ → Event → Bool

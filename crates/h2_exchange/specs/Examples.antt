@@ -11,16 +11,17 @@ use Rattle.hpack_tables.specs.declared.fault.HpackFault.TheVariants as fault
 use Rattle.h2_exchange.specs.declared.limits.CalmCause.TheVariants as cause
 use Rattle.h2_exchange.specs.declared.role.Role.TheVariants.{Client, Server}
 use Rattle.h2_exchange.specs.Blocks.{Block}
-use Rattle.h2_exchange.specs.Calls.{Begun, Request, Finished, Dropped, Declined, Answered, Closed, calls, answers}
+use Rattle.h2_exchange.specs.Calls.{Begun, Request, Finished, Dropped, Declined, Answered, Closed, shown, calls, answers}
 use Rattle.h2_exchange.specs.Content.{Outcome}
 use Rattle.h2_exchange.specs.Events.{Head, Data, Ended, Reset, GoneAway}
 use Rattle.h2_exchange.specs.Exchange.{Step, Received, Sent}
 use Rattle.h2_exchange.specs.Malformed.{is_malformed_head, is_malformed_trailers}
 use Rattle.h2_exchange.specs.Rules.{frame_error}
 use Rattle.h2_exchange.specs.Samples.{limits, body, settings, no_settings, initial, head_on, head, last_head, cut_head, rest_of_head, more_of_head, content, thirty_bytes, last_data, update_of_25, update, cancel, cancel_on, empty_message, ping, goaway, field, request, response, trailers, trailers_only, served}
-use Rattle.h2_exchange.specs.Sending.{first_text}
+use Rattle.h2_exchange.specs.Requests.{IsRequest}
+use Rattle.h2_exchange.specs.Sending.{first_text, goaway_text}
 use Rattle.h2_exchange.specs.Spelled.{Unclosed, Trailers, WasReset, IsResponse, parts}
-use Rattle.h2_exchange.specs.Stops.{Stop, Error, Calm, block_stop, has_resets_past, events, stop_of, IsBroken}
+use Rattle.h2_exchange.specs.Stops.{Stop, Error, Calm, block_stop, has_resets_past, going, events, stop_of, IsBroken}
 use Rattle.h2_exchange.specs.StreamErrors.{stream_error_of}
 use Rattle.h2_exchange.specs.Streams.{is_idle, is_live, is_open, is_over}
 use Rattle.h2_exchange.specs.Windows.{stream_window, may_send}
@@ -197,6 +198,8 @@ pub record SpelledCalls : Type 0 where
   pub long_message : calls served 12 8 3 (Head 1 request false ∷ Data 1 (0 ∷ 0 ∷ 64 ∷ 0 ∷ 1 ∷ []) ∷ Ended 1 ∷ []) ≡ Begun 1 1 ∷ Declined 1 8 ∷ []
   pub refused_head : calls served 12 8 3 (Head 1 response false ∷ Data 1 (0 ∷ []) ∷ Reset 1 code.CANCEL ∷ []) ≡ Declined 1 405 ∷ []
   pub reset : calls served 12 8 3 (Head 1 request true ∷ Reset 1 code.CANCEL ∷ []) ≡ Begun 1 1 ∷ Finished 1 ∷ Dropped 1 ∷ []
+  pub shown_refusal : shown (calls served 12 8 3 (Head 1 request false ∷ Data 1 (1 ∷ []) ∷ [])) ≡ Begun 1 1 ∷ Dropped 1 ∷ []
+  pub hidden_refusal : shown (calls served 12 8 3 (Head 1 response false ∷ [])) ≡ []
 
 -- Answers of one stream, as a client reads them: a message and its end, an end alone, a flag, and a reset behind the end.
 pub record SpelledAnswers : Type 0 where
@@ -220,3 +223,20 @@ pub record Responses : Type 0 where
   pub no_message : IsResponse response (parts 1 (response ∷ trailers ∷ []) (head ∷ last_head ∷ [])) [] (Trailers trailers) → ⊥
   pub no_status : IsResponse response (parts 1 (trailers ∷ []) (last_head ∷ [])) [] (Trailers trailers) → ⊥
   pub pseudo_trailers : IsResponse response (parts 1 (response ∷ trailers_only ∷ []) (head ∷ thirty_bytes ∷ last_head ∷ [])) (replicate 30 7) (Trailers trailers_only) → ⊥
+
+-- What a server reads of a request: a head, DATA and an end, where a reset may follow it; and what is no request.
+pub record Requests : Type 0 where
+  pub whole : IsRequest request (parts 1 (request ∷ []) (head ∷ thirty_bytes ∷ last_data ∷ [])) (replicate 30 7) true
+  pub then_reset : IsRequest request (parts 1 (request ∷ []) (head ∷ thirty_bytes ∷ last_data ∷ cancel ∷ [])) (replicate 30 7) true
+  pub cut_off : IsRequest request (parts 1 (request ∷ []) (head ∷ thirty_bytes ∷ cancel ∷ [])) (replicate 30 7) false
+  pub other_head : IsRequest request (parts 1 (response ∷ []) (head ∷ [])) [] false → ⊥
+  pub trailers_behind : IsRequest request (parts 1 (request ∷ trailers ∷ []) (head ∷ last_head ∷ [])) [] true → ⊥
+
+-- The stream that GOAWAY names: the frame that breaks a rule begins none, and a client names none.
+abbrev pub padded_head : Frame
+padded_head = Headers (body 12 5 (5 ∷ 131 ∷ []) (omega arith) (omega arith))
+
+pub record LastStreams : Type 0 where
+  pub server : goaway_text Server begun code.NO_ERROR ≡ 0 ∷ 0 ∷ 8 ∷ 7 ∷ 0 ∷ 0 ∷ 0 ∷ 0 ∷ 0 ∷ 0 ∷ 0 ∷ 0 ∷ 1 ∷ 0 ∷ 0 ∷ 0 ∷ 0 ∷ []
+  pub before_the_break : going Server (limits 100) (Ok request ∷ Ok request ∷ []) (begun ++ Received padded_head ∷ []) ≡ begun
+  pub client : goaway_text Client (Received no_settings ∷ Sent head ∷ []) code.NO_ERROR ≡ 0 ∷ 0 ∷ 8 ∷ 7 ∷ 0 ∷ 0 ∷ 0 ∷ 0 ∷ 0 ∷ 0 ∷ 0 ∷ 0 ∷ 0 ∷ 0 ∷ 0 ∷ 0 ∷ 0 ∷ []

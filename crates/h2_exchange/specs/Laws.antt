@@ -1,5 +1,6 @@
 -- Laws over exchanges that go on.
-use Rattle.std.specs.Prelude.{◌≡◌, ◌<◌, ◌≤◌, length, ℕ, ◌+◌, ◌&&◌, ◌||◌, true, false, List, [], ◌∷◌, ◌++◌, Some, None, option_to_list, map, All, Result, Ok, if◌then◌else◌, ◌==◌}
+use Rattle.std.specs.Prelude.{◌≡◌, ◌<◌, ◌≤◌, length, ℕ, ◌+◌, ◌&&◌, ◌||◌, Bool, true, false, List, [], ◌∷◌, ◌++◌, Option, Some, None, option_to_list, map, All, Result, Ok, if◌then◌else◌, ◌==◌}
+use Rattle.h2_frames.specs.declared.code.ErrorCode.{ErrorCode}
 use Rattle.h2_frames.specs.declared.frame.Frame.{Frame}
 use Rattle.hpack_tables.specs.declared.encoder.Style.{Style}
 use Rattle.hpack_tables.specs.declared.field.Field.{Field}
@@ -7,14 +8,16 @@ use Rattle.hpack_tables.specs.Writing.{Encoder, fresh}
 use Rattle.h2_exchange.specs.declared.limits.H2Limits.{H2Limits}
 use Rattle.h2_exchange.specs.declared.role.Role.{Role}
 use Rattle.h2_exchange.specs.Blocks.{open_block, blocks, left_open, completed}
-use Rattle.h2_exchange.specs.Calls.{calls, answers}
+use Rattle.h2_exchange.specs.Calls.{Call, shown, calls, answers}
 use Rattle.h2_exchange.specs.Compression.{IsWritable, AreWritten}
 use Rattle.h2_exchange.specs.Content.{Outcome, AreRead}
 use Rattle.h2_exchange.specs.Events.{Event, events_of}
-use Rattle.h2_exchange.specs.Exchange.{Step, received, sent, sent_text}
+use Rattle.h2_exchange.specs.Exchange.{Step, Received, Sent, received, sent, sent_text}
 use Rattle.h2_exchange.specs.Frames.{stream_of, is_window_update, increment_of, counted}
 use Rattle.h2_exchange.specs.Order.{Piece, gots, puts, end_of, due_from_peer, due_from_self, InOrder}
+use Rattle.h2_exchange.specs.Outgoing.{MaySend, HasPlace, SendsOnly}
 use Rattle.h2_exchange.specs.Sending.{IsFront}
+use Rattle.h2_exchange.specs.Spelled.{Item, IsFrontOf, IsAllOf}
 use Rattle.h2_exchange.specs.Stops.{Stop, stop_at, stop_of, events}
 use Rattle.h2_exchange.specs.Streams.{begins, is_begun, is_over}
 use Rattle.h2_exchange.specs.Windows.{granted_on, spent_on, spent}
@@ -29,6 +32,12 @@ StopsStay =
     (role : Role) (limits : H2Limits) (heads : List Outcome) (x more : List Step) (stop : Stop) → stop_of role limits heads x ≡ Some stop →
     (stop_of role limits heads (x ++ more) ≡ Some stop) × (events role limits heads (x ++ more) ≡ events role limits heads x)
 
+-- what is known of later header blocks changes nothing
+abbrev pub HeadsStay : Type 0
+HeadsStay =
+    (role : Role) (limits : H2Limits) (heads more : List Outcome) (x : List Step) → length (blocks (received x)) ≤ length heads →
+    (stop_of role limits (heads ++ more) x ≡ stop_of role limits heads x) × (events role limits (heads ++ more) x ≡ events role limits heads x)
+
 -- one more frame adds its events, where nothing stops
 abbrev pub EventsGoOn : Type 0
 EventsGoOn =
@@ -41,8 +50,26 @@ CallsStay M E =
     (method_of : List Field → Result M E) (compressed too_long truncated : E) (es more : List Event) →
     IsFront (calls method_of compressed too_long truncated es) (calls method_of compressed too_long truncated (es ++ more))
 
+-- what is shown of calls stays where more are spelled
+abbrev pub ShownStay : Type 0 → Type 0 → Type 0
+ShownStay M E = (cs more : List (Call M E)) → IsFront (shown cs) (shown (cs ++ more))
+
 abbrev pub AnswersStay : Type 0 → Type 0
 AnswersStay E = (status_of : List Field → E) (unknown : E) (es more : List Event) → IsFront (answers status_of unknown es) (answers status_of unknown (es ++ more))
+
+-- all of the items are a first part of them
+abbrev pub AllAreFront : Type 0 → Type 0
+AllAreFront E = (messages : List (List ℕ)) (rest : List ℕ) (end : Option E) (items : List (Item E)) → IsAllOf messages rest end items → IsFrontOf messages rest end items
+
+-- What a side sends goes on with a received frame, and with a frame that may be sent and stands where it may.
+pub record SendingGoesOn (role : Role) (limits : H2Limits) (heads : List Outcome) (is_asked : List Step → ℕ → ErrorCode → Bool) (bytes rest : List ℕ) (x : List Step) : Type 0 where
+  pub received : (f : Frame) → SendsOnly role limits heads is_asked bytes rest x → SendsOnly role limits heads is_asked bytes rest (x ++ Received f ∷ [])
+  pub sent : (f : Frame) → MaySend role limits heads is_asked bytes rest x f → HasPlace x f → SendsOnly role limits heads is_asked bytes rest x → SendsOnly role limits heads is_asked bytes rest (x ++ Sent f ∷ [])
+
+abbrev pub OnlyTheseAreSent : Type 0
+OnlyTheseAreSent =
+    (role : Role) (limits : H2Limits) (heads : List Outcome) (is_asked : List Step → ℕ → ErrorCode → Bool) (bytes rest : List ℕ) (x : List Step) →
+    SendingGoesOn role limits heads is_asked bytes rest x
 
 -- a stream begins once, and once it is over it stays so
 pub record StreamsEnd : Type 0 where

@@ -10,6 +10,8 @@ pub mod Grows
 pub mod Laws
 pub mod Malformed
 pub mod Order
+pub mod Outgoing
+pub mod Requests
 pub mod Rules
 pub mod Samples
 pub mod Sending

@@ -86,6 +86,13 @@ IsFrontOf [] rest None other = rest ≡ []
 IsFrontOf [] rest (Some end) (Finish e ∷ []) = (rest ≡ []) × (end ≡ e)
 IsFrontOf [] rest (Some end) other = ⊥
 
+-- The messages and the end are all of the items.
+abbrev pub IsAllOf : {E : Type 0} → List (List ℕ) → List ℕ → Option E → List (Item E) → Type 0
+IsAllOf (m ∷ ms) rest end (Message n ∷ items) = (m ≡ n) × IsAllOf ms rest end items
+IsAllOf [] rest None [] = rest ≡ []
+IsAllOf [] rest (Some end) (Finish e ∷ []) = (rest ≡ []) × (end ≡ e)
+IsAllOf messages rest end other = ⊥
+
 -- a head stands that isn't the end
 abbrev pub has_begun : List Part → Bool
 has_begun (Fields fields false ∷ ps) = true
@@ -116,3 +123,9 @@ module _ {E : Type 0} (head : List Field) (read_end : List Field → E) where
       (heads : List (List Field)) × AreRead (sent x) (map Ok heads)
       × ((id : ℕ) → (messages : List (List ℕ)) × (rest : List ℕ) × (end : Option E) × Spells heads (sent x) id messages rest end × IsFrontOf messages rest end (owed id)
       × (has_begun (parts id heads (sent x)) ≡ true → IsMessageFirst (owed id)))
+
+  -- The sent frames can be read, and spell on this stream all that it is owed.
+  abbrev pub AnswersAre : List Step → ℕ → List (Item E) → Type 0
+  AnswersAre x id owed =
+      (heads : List (List Field)) × AreRead (sent x) (map Ok heads)
+      × (messages : List (List ℕ)) × (rest : List ℕ) × (end : Option E) × Spells heads (sent x) id messages rest end × IsAllOf messages rest end owed

@@ -76,6 +76,16 @@ pub fn a_server_takes_100_streams()
     ensures { example.FullServer }
 {}
 
+/// What a server reads of a request.
+pub fn requests_are_read()
+    ensures { example.Requests }
+{}
+
+/// The stream that GOAWAY names.
+pub fn goaway_names_the_peers_last_stream()
+    ensures { example.LastStreams }
+{}
+
 /// What a client reads of a response.
 pub fn responses_are_read()
     ensures { example.Responses }

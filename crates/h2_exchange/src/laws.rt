@@ -1,5 +1,5 @@
 //! Laws over exchanges that go on.
-ghost use Rattle.h2_exchange.specs.Laws.{AnswersStay, BlocksAdd, CallsStay, EventsGoOn, EventsStay, OrderLasts, StopsStay, StreamsEnd, WindowsAdd, WrittenBlocksAreRead};
+ghost use Rattle.h2_exchange.specs.Laws.{AllAreFront, AnswersStay, BlocksAdd, CallsStay, EventsGoOn, EventsStay, HeadsStay, OnlyTheseAreSent, OrderLasts, ShownStay, StopsStay, StreamsEnd, WindowsAdd, WrittenBlocksAreRead};
 
 /// The events of an exchange begin those of the exchange that goes on.
 pub fn events_stay()
@@ -11,6 +11,11 @@ pub fn stops_stay()
     ensures { StopsStay }
 {}
 
+/// What stops an exchange, and its events, are the same whatever later header blocks say.
+pub fn heads_stay()
+    ensures { HeadsStay }
+{}
+
 /// One more frame adds its own events.
 pub fn events_go_on()
     ensures { EventsGoOn }
@@ -19,6 +24,21 @@ pub fn events_go_on()
 /// The calls that events spell begin those that more events spell.
 pub fn calls_stay<M, E>()
     ensures { CallsStay M E }
+{}
+
+/// What is shown of calls begins what is shown of more calls.
+pub fn shown_stay<M, E>()
+    ensures { ShownStay M E }
+{}
+
+/// All of what a stream is owed is a first part of it.
+pub fn all_are_front<E>()
+    ensures { AllAreFront E }
+{}
+
+/// A side that sends only what it may goes on so with a received frame, and with one that it may send.
+pub fn only_these_are_sent()
+    ensures { OnlyTheseAreSent }
 {}
 
 /// The answers that events spell begin those that more events spell.
