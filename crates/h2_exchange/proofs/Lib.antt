@@ -1,6 +1,7 @@
 pub mod Compressing
 pub mod Computed
 pub mod Heads
+pub mod Known
 pub mod Looking
 pub mod Ordering
 pub mod Sending

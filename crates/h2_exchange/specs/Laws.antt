@@ -15,6 +15,7 @@ use Rattle.h2_exchange.specs.Events.{Event, events_of}
 use Rattle.h2_exchange.specs.Exchange.{Step, Received, Sent, received, sent, sent_text}
 use Rattle.h2_exchange.specs.Frames.{stream_of, is_window_update, increment_of, counted}
 use Rattle.h2_exchange.specs.Order.{Piece, gots, puts, end_of, due_from_peer, due_from_self, InOrder}
+use Rattle.h2_exchange.specs.Outcomes.{AreEnough, AreKnown}
 use Rattle.h2_exchange.specs.Outgoing.{MaySend, HasPlace, SendsOnly}
 use Rattle.h2_exchange.specs.Sending.{IsFront}
 use Rattle.h2_exchange.specs.Spelled.{Item, IsFrontOf, IsAllOf}
@@ -32,11 +33,18 @@ StopsStay =
     (role : Role) (limits : H2Limits) (heads : List Outcome) (x more : List Step) (stop : Stop) → stop_of role limits heads x ≡ Some stop →
     (stop_of role limits heads (x ++ more) ≡ Some stop) × (events role limits heads (x ++ more) ≡ events role limits heads x)
 
--- what is known of later header blocks changes nothing
-abbrev pub HeadsStay : Type 0
-HeadsStay =
-    (role : Role) (limits : H2Limits) (heads more : List Outcome) (x : List Step) → length (blocks (received x)) ≤ length heads →
-    (stop_of role limits (heads ++ more) x ≡ stop_of role limits heads x) × (events role limits (heads ++ more) x ≡ events role limits heads x)
+-- What is known of further header blocks changes nothing, where each that is looked at has its outcome. That is so where
+-- each completed block has one.
+pub record HeadsStay : Type 0 where
+  pub looked_at : (role : Role) (limits : H2Limits) (heads more : List Outcome) (x : List Step) → AreEnough role limits heads x →
+      (stop_of role limits (heads ++ more) x ≡ stop_of role limits heads x) × (events role limits (heads ++ more) x ≡ events role limits heads x)
+  pub completed : (role : Role) (limits : H2Limits) (heads : List Outcome) (x : List Step) → length (blocks (received x)) ≤ length heads → AreEnough role limits heads x
+
+-- whatever outcomes are known, an exchange has one stop and one list of events
+abbrev pub OneMeaning : Type 0
+OneMeaning =
+    (role : Role) (limits : H2Limits) (heads others : List Outcome) (x : List Step) → AreKnown role limits heads x → AreKnown role limits others x →
+    (stop_of role limits heads x ≡ stop_of role limits others x) × (events role limits heads x ≡ events role limits others x)
 
 -- one more frame adds its events, where nothing stops
 abbrev pub EventsGoOn : Type 0

@@ -10,6 +10,7 @@ pub mod Grows
 pub mod Laws
 pub mod Malformed
 pub mod Order
+pub mod Outcomes
 pub mod Outgoing
 pub mod Requests
 pub mod Rules

@@ -1,5 +1,5 @@
 -- What a side sends at all: each sent frame is one of these (RFC 9113; gRPC over HTTP/2).
-use Rattle.std.specs.Prelude.{◌≡◌, ℕ, ◌+◌, ◌<◌, ◌≤◌, ◌&&◌, ◌||◌, Bool, true, false, option_map, List, [], ◌∷◌, ◌++◌, Some, ◌⊎◌}
+use Rattle.std.specs.Prelude.{◌≡◌, ℕ, ◌+◌, ◌<◌, ◌≤◌, ◌&&◌, ◌||◌, Bool, true, false, option_map, List, [], ◌∷◌, ◌++◌, Some, None, ◌⊎◌}
 use Rattle.std.specs.List.{list_any}
 use Rattle.h2_frames.specs.declared.code.ErrorCode.{ErrorCode}
 use Rattle.h2_frames.specs.declared.code.TheConstants.ErrorCode as code
@@ -14,7 +14,7 @@ use Rattle.h2_exchange.specs.Exchange.{Step, Received, Sent, received, sent, sen
 use Rattle.h2_exchange.specs.Frames.{stream_of, is_data, is_headers, is_settings, is_ping, is_goaway, is_continuation, has_ack}
 use Rattle.h2_exchange.specs.Rules.{breaks_block_on}
 use Rattle.h2_exchange.specs.Sending.{IsFront, AreAcknowledged, first_text, own_settings, update_text, reset_text, goaway_text}
-use Rattle.h2_exchange.specs.Stops.{going, IsBroken, IsCalm}
+use Rattle.h2_exchange.specs.Stops.{going, stop_of, IsBroken, IsCalm}
 use Rattle.h2_exchange.specs.Streams.{begins, is_live, is_open}
 use Rattle.h2_exchange.specs.Windows.{granted_on, spent_on, spent}
 
@@ -36,7 +36,7 @@ pub data MaySend (role : Role) (limits : H2Limits) (heads : List Outcome) (is_as
   -- credit for a live stream, up to the whole window
   credits_stream : (id n : ℕ) → frame_text f ≡ update_text id n → 0 < n → is_live role past id ≡ true → granted_on id (sent past) + n ≤ spent_on id (received past) → MaySend role limits heads is_asked bytes rest past f
   -- the reset of a stream error, right behind its frame
-  resets_error : (before : List Step) (g : Frame) (why : ErrorCode) → past ≡ before ++ Received g ∷ [] → stream_error role limits heads before g ≡ Some why → frame_text f ≡ reset_text (stream_of g) why → MaySend role limits heads is_asked bytes rest past f
+  resets_error : (before : List Step) (g : Frame) (why : ErrorCode) → past ≡ before ++ Received g ∷ [] → stop_of role limits heads past ≡ None → stream_error role limits heads before g ≡ Some why → frame_text f ≡ reset_text (stream_of g) why → MaySend role limits heads is_asked bytes rest past f
   -- a reset that is asked for, of a live stream
   resets : (id : ℕ) (why : ErrorCode) → is_live role past id ≡ true → is_asked past id why ≡ true → frame_text f ≡ reset_text id why → MaySend role limits heads is_asked bytes rest past f
   -- HEADERS of a new stream

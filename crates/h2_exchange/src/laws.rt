@@ -1,5 +1,5 @@
 //! Laws over exchanges that go on.
-ghost use Rattle.h2_exchange.specs.Laws.{AllAreFront, AnswersStay, BlocksAdd, CallsStay, EventsGoOn, EventsStay, HeadsStay, OnlyTheseAreSent, OrderLasts, ShownStay, StopsStay, StreamsEnd, WindowsAdd, WrittenBlocksAreRead};
+ghost use Rattle.h2_exchange.specs.Laws.{AllAreFront, AnswersStay, BlocksAdd, CallsStay, EventsGoOn, EventsStay, HeadsStay, OneMeaning, OnlyTheseAreSent, OrderLasts, ShownStay, StopsStay, StreamsEnd, WindowsAdd, WrittenBlocksAreRead};
 
 /// The events of an exchange begin those of the exchange that goes on.
 pub fn events_stay()
@@ -11,9 +11,14 @@ pub fn stops_stay()
     ensures { StopsStay }
 {}
 
-/// What stops an exchange, and its events, are the same whatever later header blocks say.
+/// What stops an exchange, and its events, are the same whatever header blocks say at which it doesn't look.
 pub fn heads_stay()
     ensures { HeadsStay }
+{}
+
+/// What stops an exchange, and its events, follow from its frames.
+pub fn one_meaning()
+    ensures { OneMeaning }
 {}
 
 /// One more frame adds its own events.

@@ -1,0 +1,37 @@
+-- What header blocks say, as far as an exchange is looked at: what stands behind a stop is never read.
+use Rattle.std.specs.Prelude.{◌≡◌, ℕ, ◌<◌, ◌&&◌, Bool, true, not, is_some, List, [], ◌∷◌, ◌++◌, length, Some, Ok, Err}
+use Rattle.h2_frames.specs.declared.frame.Frame.{Frame}
+use Rattle.hpack_tables.specs.declared.field.Field.{Field}
+use Rattle.hpack_tables.specs.Reading.{State, BlockAt}
+use Rattle.h2_exchange.specs.declared.limits.H2Limits.{H2Limits}
+use Rattle.h2_exchange.specs.declared.role.Role.{Role}
+use Rattle.h2_exchange.specs.Blocks.{Block, block_with, open_block, blocks, completed}
+use Rattle.h2_exchange.specs.Content.{Outcome}
+use Rattle.h2_exchange.specs.Exchange.{Step, Received, received}
+use Rattle.h2_exchange.specs.Rules.{frame_error}
+use Rattle.h2_exchange.specs.Stops.{block_stop, stop_of}
+
+-- The first of these blocks have these outcomes, one after another over one table; behind a fault none is read.
+abbrev pub ReadFirst : List Field → ℕ → List Block → List Outcome → Type 0
+ReadFirst entries max bs [] = Unit {0}
+ReadFirst entries max [] (outcome ∷ more) = ⊥
+ReadFirst entries max (b ∷ bs) (Ok fields ∷ more) =
+    (after : State) × BlockAt 4096 (record { entries = entries; max = max; fields = [] }) b.text (Ok after) × (after.fields ≡ fields) × ReadFirst after.entries after.max bs more
+ReadFirst entries max (b ∷ bs) (Err fault ∷ more) = BlockAt 4096 (record { entries = entries; max = max; fields = [] }) b.text (Err fault) × (more ≡ [])
+
+-- The content of the block that a received frame completes is looked at: nothing stopped the exchange before, the frame
+-- breaks no rule by itself, and its block isn't too large.
+abbrev pub is_looked_at : Role → H2Limits → List Outcome → List Step → Frame → Bool
+is_looked_at role limits heads past f =
+    not (is_some (stop_of role limits heads past)) && not (is_some (frame_error role past f)) && not (is_some (block_stop (block_with (open_block (received past)) f)))
+
+-- each block that is looked at has its outcome
+abbrev pub AreEnough : Role → H2Limits → List Outcome → List Step → Type 0
+AreEnough role limits heads x =
+    (past behind : List Step) (f : Frame) (b : Block) → x ≡ past ++ Received f ∷ behind → is_looked_at role limits heads past f ≡ true → completed (received past) f ≡ Some b →
+    length (blocks (received past)) < length heads
+
+-- These are outcomes of the received blocks, and all that the exchange asks for.
+pub record AreKnown (role : Role) (limits : H2Limits) (heads : List Outcome) (x : List Step) : Type 0 where
+  pub read : ReadFirst [] 4096 (blocks (received x)) heads
+  pub enough : AreEnough role limits heads x
