@@ -4,6 +4,7 @@ pub mod Heads
 pub mod Known
 pub mod Looking
 pub mod Ordering
+pub mod Reading
 pub mod Sending
 pub mod Staying
 pub mod Steps

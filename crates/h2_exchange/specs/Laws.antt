@@ -14,8 +14,8 @@ use Rattle.h2_exchange.specs.Content.{Outcome, AreRead}
 use Rattle.h2_exchange.specs.Events.{Event, events_of}
 use Rattle.h2_exchange.specs.Exchange.{Step, Received, Sent, received, sent, sent_text}
 use Rattle.h2_exchange.specs.Frames.{stream_of, is_window_update, increment_of, counted}
-use Rattle.h2_exchange.specs.Order.{Piece, gots, puts, end_of, due_from_peer, due_from_self, InOrder}
-use Rattle.h2_exchange.specs.Outcomes.{AreEnough, AreKnown}
+use Rattle.h2_exchange.specs.Order.{Piece, gots, puts, end_of, due_from_peer, due_from_self, InOrder, IsExchange}
+use Rattle.h2_exchange.specs.Outcomes.{AreEnough, AreKnown, IsReadExchange}
 use Rattle.h2_exchange.specs.Outgoing.{MaySend, HasPlace, SendsOnly}
 use Rattle.h2_exchange.specs.Sending.{IsFront}
 use Rattle.h2_exchange.specs.Spelled.{Item, IsFrontOf, IsAllOf}
@@ -39,6 +39,12 @@ pub record HeadsStay : Type 0 where
   pub looked_at : (role : Role) (limits : H2Limits) (heads more : List Outcome) (x : List Step) → AreEnough role limits heads x →
       (stop_of role limits (heads ++ more) x ≡ stop_of role limits heads x) × (events role limits (heads ++ more) x ≡ events role limits heads x)
   pub completed : (role : Role) (limits : H2Limits) (heads : List Outcome) (x : List Step) → length (blocks (received x)) ≤ length heads → AreEnough role limits heads x
+
+-- an exchange of all frames is one that is read
+abbrev pub WholeIsRead : Type 0
+WholeIsRead =
+    (role : Role) (limits : H2Limits) (heads : List Outcome) (ps : List Piece) (out : List ℕ) (x : List Step) (rest : List ℕ) →
+    IsExchange role ps out x rest → AreKnown role limits heads x → IsReadExchange role limits heads ps out x rest
 
 -- whatever outcomes are known, an exchange has one stop and one list of events
 abbrev pub OneMeaning : Type 0

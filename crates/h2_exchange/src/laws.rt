@@ -1,5 +1,5 @@
 //! Laws over exchanges that go on.
-ghost use Rattle.h2_exchange.specs.Laws.{AllAreFront, AnswersStay, BlocksAdd, CallsStay, EventsGoOn, EventsStay, HeadsStay, OneMeaning, OnlyTheseAreSent, OrderLasts, ShownStay, StopsStay, StreamsEnd, WindowsAdd, WrittenBlocksAreRead};
+ghost use Rattle.h2_exchange.specs.Laws.{AllAreFront, AnswersStay, BlocksAdd, CallsStay, EventsGoOn, EventsStay, HeadsStay, OneMeaning, OnlyTheseAreSent, OrderLasts, ShownStay, StopsStay, StreamsEnd, WholeIsRead, WindowsAdd, WrittenBlocksAreRead};
 
 /// The events of an exchange begin those of the exchange that goes on.
 pub fn events_stay()
@@ -14,6 +14,11 @@ pub fn stops_stay()
 /// What stops an exchange, and its events, are the same whatever header blocks say at which it doesn't look.
 pub fn heads_stay()
     ensures { HeadsStay }
+{}
+
+/// An exchange that has all frames of a link is one that is read.
+pub fn whole_is_read()
+    ensures { WholeIsRead }
 {}
 
 /// What stops an exchange, and its events, follow from its frames.
