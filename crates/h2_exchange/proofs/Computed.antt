@@ -1,10 +1,12 @@
 -- The examples compute.
 use Rattle.std.proofs.Common.{◌≡◌, true, false, ℕ, List, [], length, take, refl, ap, arith, inl, inr}
 use Rattle.std.specs.Prelude.{slice_index}
+use Rattle.h2_frames.specs.declared.code.TheConstants.ErrorCode as code
 use Rattle.h2_frames.specs.Stream.{preface}
 use Rattle.grpc_framing.specs.Framing.{item_at, front_at, messages_upto, messages_of}
-use Rattle.h2_exchange.specs.Samples.{request, response, trailers}
-use Rattle.h2_exchange.specs.Examples.{LoweredWindow, FirstFrames, StreamLife, RefusedStream, StreamNumbers, SecondHead, Stops, RestStops, BlockLimits, CutRequests, bad_preface, QuietFrames, BadHeads, SpelledCalls, SpelledAnswers, FullServer, Responses, Requests, LastStreams}
+use Rattle.h2_exchange.specs.Samples.{request, response, trailers, head}
+use Rattle.h2_exchange.specs.Outgoing as may
+use Rattle.h2_exchange.specs.Examples.{LoweredWindow, FirstFrames, StreamLife, RefusedStream, StreamNumbers, SecondHead, Stops, RestStops, BlockLimits, CutRequests, bad_preface, QuietFrames, BadHeads, SpelledCalls, SpelledAnswers, FullServer, Responses, Requests, LastStreams, SentFrames, asked}
 
 pub lowered_window : LoweredWindow
 lowered_window = record { ten = refl; below_zero = refl; nothing = refl; five = refl }
@@ -105,3 +107,16 @@ requests = record {
 
 pub last_streams : LastStreams
 last_streams = record { server = refl; before_the_break = refl; client = refl }
+
+pub sent_frames : SentFrames
+unfolding item_at front_at messages_upto messages_of
+sent_frames = record {
+  settings = may.opens refl refl;
+  window = may.credits 983041 refl (omega arith) (omega arith);
+  acknowledgement = may.acknowledges refl ([], refl);
+  credit = may.credits 30 refl (omega arith) (omega arith);
+  stream_credit = may.credits_stream 1 30 refl (omega arith) refl (omega arith);
+  response = may.carries refl refl;
+  reset = may.resets_error asked head code.PROTOCOL_ERROR refl refl refl refl;
+  goaway = may.goes_away code.PROTOCOL_ERROR (inl (81, inl refl)) refl;
+}

@@ -3,7 +3,7 @@ use native.Mathlib.Omega.{arith}
 use Rattle.std.specs.Prelude.{◌≡◌, ℕ, zero, suc, ◌+◌, ◌*◌, ◌%◌, ◌^◌, Bool, true, false, negsuc, List, [], ◌∷◌, ◌++◌, length, replicate, codes, Option, Some, None, Ok, Err}
 use Rattle.h2_frames.specs.declared.code.TheConstants.ErrorCode as code
 use Rattle.h2_frames.specs.declared.frame.Frame.{Frame}
-use Rattle.h2_frames.specs.declared.frame.Frame.TheVariants.{Content, Headers, Settings, PushPromise}
+use Rattle.h2_frames.specs.declared.frame.Frame.TheVariants.{Content, Headers, RstStream, Settings, PushPromise, GoAway}
 use Rattle.h2_frames.specs.declared.frame.FrameBody.{FrameBody}
 use Rattle.h2_frames.specs.Layout.{frame_text}
 use Rattle.h2_frames.specs.Stream.{preface}
@@ -17,7 +17,8 @@ use Rattle.h2_exchange.specs.Events.{Head, Data, Ended, Reset, GoneAway}
 use Rattle.h2_exchange.specs.Exchange.{Step, Received, Sent}
 use Rattle.h2_exchange.specs.Malformed.{is_malformed_head, is_malformed_trailers}
 use Rattle.h2_exchange.specs.Rules.{frame_error}
-use Rattle.h2_exchange.specs.Samples.{limits, body, settings, no_settings, initial, head_on, head, last_head, cut_head, rest_of_head, more_of_head, content, thirty_bytes, last_data, update_of_25, update, cancel, cancel_on, empty_message, ping, goaway, field, request, response, trailers, trailers_only, served}
+use Rattle.h2_exchange.specs.Samples.{limits, body, first_settings, settings, no_settings, initial, head_on, head, last_head, cut_head, rest_of_head, more_of_head, content, thirty_bytes, last_data, update_of_25, update, cancel, cancel_on, empty_message, ping, goaway, field, request, response, trailers, trailers_only, served}
+use Rattle.h2_exchange.specs.Outgoing.{MaySend}
 use Rattle.h2_exchange.specs.Requests.{IsRequest}
 use Rattle.h2_exchange.specs.Sending.{first_text, goaway_text}
 use Rattle.h2_exchange.specs.Spelled.{Unclosed, Trailers, WasReset, IsResponse, parts}
@@ -240,3 +241,23 @@ pub record LastStreams : Type 0 where
   pub server : goaway_text Server begun code.NO_ERROR ≡ 0 ∷ 0 ∷ 8 ∷ 7 ∷ 0 ∷ 0 ∷ 0 ∷ 0 ∷ 0 ∷ 0 ∷ 0 ∷ 0 ∷ 1 ∷ 0 ∷ 0 ∷ 0 ∷ 0 ∷ []
   pub before_the_break : going Server (limits 100) (Ok request ∷ Ok request ∷ []) (begun ++ Received padded_head ∷ []) ≡ begun
   pub client : goaway_text Client (Received no_settings ∷ Sent head ∷ []) code.NO_ERROR ≡ 0 ∷ 0 ∷ 8 ∷ 7 ∷ 0 ∷ 0 ∷ 0 ∷ 0 ∷ 0 ∷ 0 ∷ 0 ∷ 0 ∷ 0 ∷ 0 ∷ 0 ∷ 0 ∷ 0 ∷ []
+
+-- Frames that a server may send: its first ones, an acknowledgement, credit, a head, the reset of a second head, GOAWAY.
+abbrev pub greeted : List Step
+greeted = Sent first_settings ∷ Sent (update 0 (0 ∷ 15 ∷ 0 ∷ 1 ∷ []) (omega arith) (omega arith)) ∷ []
+
+abbrev pub asked : List Step
+asked = greeted ++ Received no_settings ∷ Sent (Settings (body 1 0 [] (omega arith) (omega arith))) ∷ Received head ∷ Received thirty_bytes ∷ []
+
+abbrev pub Allowed : List Step → Frame → Type 0
+Allowed past f = MaySend Server (limits 100) (Ok request ∷ Ok request ∷ []) (λ past id why. false) [] [] past f
+
+pub record SentFrames : Type 0 where
+  pub settings : Allowed [] first_settings
+  pub window : Allowed (Sent first_settings ∷ []) (update 0 (0 ∷ 15 ∷ 0 ∷ 1 ∷ []) (omega arith) (omega arith))
+  pub acknowledgement : Allowed (greeted ++ Received no_settings ∷ []) (Settings (body 1 0 [] (omega arith) (omega arith)))
+  pub credit : Allowed asked (update 0 (0 ∷ 0 ∷ 0 ∷ 30 ∷ []) (omega arith) (omega arith))
+  pub stream_credit : Allowed asked (update 1 (0 ∷ 0 ∷ 0 ∷ 30 ∷ []) (omega arith) (omega arith))
+  pub response : Allowed asked head
+  pub reset : Allowed (asked ++ Received head ∷ []) (RstStream (body 0 1 (0 ∷ 0 ∷ 0 ∷ 1 ∷ []) (omega arith) (omega arith)))
+  pub goaway : Allowed (asked ++ Received rest_of_head ∷ []) (GoAway (body 0 0 (0 ∷ 0 ∷ 0 ∷ 1 ∷ 0 ∷ 0 ∷ 0 ∷ 1 ∷ []) (omega arith) (omega arith)))

@@ -7,6 +7,8 @@ use Rattle.h2_frames.specs.declared.frame.Frame.TheVariants.{Content, Headers, R
 use Rattle.h2_frames.specs.declared.frame.FrameBody.{FrameBody}
 use Rattle.hpack_tables.specs.declared.field.Field.{Field}
 use Rattle.h2_exchange.specs.declared.limits.H2Limits.{H2Limits}
+use Rattle.h2_exchange.specs.declared.role.Role.TheVariants.{Server}
+use Rattle.h2_exchange.specs.Sending.{own_settings}
 
 -- the limits of the program, with so many streams
 abbrev pub limits : ℕ → H2Limits
@@ -21,6 +23,10 @@ settings payload p = Settings (body 0 0 payload (omega arith) p)
 
 abbrev pub no_settings : Frame
 no_settings = settings [] (omega arith)
+
+-- those that a server sends first
+abbrev pub first_settings : Frame
+first_settings = settings (own_settings Server (limits 100)) (omega arith)
 
 -- INITIAL_WINDOW_SIZE in its lowest byte
 abbrev pub initial : ℕ → Frame

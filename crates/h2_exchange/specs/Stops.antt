@@ -34,8 +34,8 @@ abbrev pub block_stop : Option Block → Option Stop
 block_stop None = None
 block_stop (Some b) = first_broken ((nat_lt 65536 (length b.text), Calm HeaderBytes) ∷ (nat_lt 64 b.frames, Calm HeaderFrames) ∷ [])
 
--- A list that is too long, or another fault of the block (RFC 9113, section 4.3). Where this side allows less than the
--- 65,536 bytes at which a block is refused, a fault comes before a list that is longer than it allows: the whole list decides.
+-- A list that is too long, or another fault of the block (RFC 9113, section 4.3). A list past 65,536 bytes is refused at the
+-- field that passes; one past a smaller limit of this side only as a whole, so that a fault behind that field comes first.
 abbrev pub content_stop : H2Limits → ℕ → Option Outcome → Option Stop
 content_stop limits place None = None
 content_stop limits place (Some (Ok fields)) = if nat_lt limits.list (sum_by size_of fields) then Some (Calm HeaderList) else None

@@ -86,6 +86,11 @@ pub fn goaway_names_the_peers_last_stream()
     ensures { example.LastStreams }
 {}
 
+/// Frames that a server may send.
+pub fn frames_that_are_sent()
+    ensures { example.SentFrames }
+{}
+
 /// What a client reads of a response.
 pub fn responses_are_read()
     ensures { example.Responses }
