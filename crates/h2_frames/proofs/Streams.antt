@@ -10,10 +10,10 @@ use Rattle.h2_frames.specs.declared.reader.FrameNext.{FrameNext}
 use Rattle.h2_frames.specs.declared.reader.FrameNext.TheVariants as Says
 use Rattle.h2_frames.specs.declared.reader.Refusal.{Refusal}
 use Rattle.h2_frames.specs.declared.reader.Refusal.TheVariants as Was
-use Rattle.h2_frames.specs.Layout.{size_of, IsFrame, IsPartial, IsTooLong}
+use Rattle.h2_frames.specs.Layout.{size_of, IsFrame, IsPartial, IsTooLong, BeginsWithFrame, said_length}
 use Rattle.h2_frames.specs.Reader.{Reader}
 use Rattle.h2_frames.proofs.Prefixes.{take_nothing, Follows-cut, Follows-append, Follows-all, Follows-self}
-use Rattle.h2_frames.specs.Stream.{Follows, Reads, Frames, TakesFrame, Gives, Breaks, IsBroken, IsFront, Stands, StandsAlive, StandsDead, Answers, AreWhole, CarriesNext, CarriesPiece, EndsBetween, StaysDead, told, fed, place_at, place_after}
+use Rattle.h2_frames.specs.Stream.{Follows, Reads, Frames, TakesFrame, Gives, Breaks, IsBroken, HasAnother, Stands, StandsAlive, StandsDead, Answers, AreWhole, CarriesNext, CarriesPiece, EndsBetween, StaysDead, told, fed, place_at, place_after}
 
 -- ---- frames and more bytes
 
@@ -59,15 +59,19 @@ alive_fed due r bytes piece (f ∷ fs) h =
     let le = due_first due bytes f fs r.held h.2 in
     (h.0, Follows-append due bytes piece le h.1, subst (λ (x : List ℕ). Reads x (f ∷ fs) (r.held ++ piece)) (sym (drop-append-le (length due) bytes piece le)) (Reads-append (drop (length due) bytes) (f ∷ fs) r.held piece h.2), h.3)
 
-IsFront-append : (due bytes more : List ℕ) (given : List Frame) → IsFront due bytes given → IsFront due (bytes ++ more) given
-IsFront-append due bytes more [] h = tt
-IsFront-append due bytes more (f ∷ fs) h =
-    let le = due_first due bytes f fs h.0 h.2 in
-    (h.0 ++ more, Follows-append due bytes more le h.1, subst (λ (x : List ℕ). Reads x (f ∷ fs) (h.0 ++ more)) (sym (drop-append-le (length due) bytes more le)) (Reads-append (drop (length due) bytes) (f ∷ fs) h.0 more h.2))
+frame_first : (rest more : List ℕ) → BeginsWithFrame rest → BeginsWithFrame (rest ++ more)
+frame_first rest more h =
+    let same : said_length (rest ++ more) ≡ said_length rest = ap (λ (x : List ℕ). from_be_bytes w32 (0 ∷ x)) (take-append-le 3 rest more (omega (arith, h.1))) in
+    (omega (arith, same, h.0), omega (arith, same, h.1, length-append rest more))
+
+HasAnother-append : (due bytes more : List ℕ) (given : List Frame) → HasAnother due bytes given → HasAnother due (bytes ++ more) given
+HasAnother-append due bytes more given h =
+    let le = long_due due bytes given h.0 h.2 (omega (arith, h.3.1)) in
+    (h.0 ++ more, Follows-append due bytes more le h.1, subst (λ (x : List ℕ). Reads x given (h.0 ++ more)) (sym (drop-append-le (length due) bytes more le)) (Reads-append (drop (length due) bytes) given h.0 more h.2), frame_first h.0 more h.3)
 
 dead_fed : (why : Refusal) (due bytes piece : List ℕ) (given : List Frame) → StandsDead why due bytes given → StandsDead why due (bytes ++ piece) given
 dead_fed (Was.Broken code place) due bytes piece given h = IsBroken-append due bytes piece given code place h
-dead_fed Was.NoMemory due bytes piece given h = IsFront-append due bytes piece given h
+dead_fed Was.NoMemory due bytes piece given h = HasAnother-append due bytes piece given h
 
 carried : (due awaited held piece bytes : List ℕ) (place : ℕ) (refusal : Option Refusal) (given : List Frame) →
     let r : Reader = record { awaited = awaited; held = held; place = place; refusal = refusal } in
@@ -159,6 +163,20 @@ alive_breaks due old bytes (f ∷ fs) code place h (inr b) =
     later : (awaited : List ℕ) (before : ℕ) → awaited ≡ [] → before ≡ place_after due (f ∷ fs) → place_at (before + length awaited) ≡ place_after due (f ∷ fs)
     later awaited before e p = omega (arith, ap length e)
 
+alive_another : (due : List ℕ) (r : Reader) (bytes : List ℕ) (given : List Frame) → StandsAlive due r bytes given → Follows r.awaited r.held → BeginsWithFrame (drop (length r.awaited) r.held) → HasAnother due bytes given
+alive_another due r bytes [] h follows more = (
+  drop (length due) bytes,
+  subst (λ (x : List ℕ). Follows x bytes) h.0 (subst (λ (x : List ℕ). Follows r.awaited x) h.1 follows),
+  refl,
+  subst (λ (x : List ℕ). BeginsWithFrame (drop (length x) bytes)) h.0 (subst (λ (x : List ℕ). BeginsWithFrame (drop (length r.awaited) x)) h.1 more),
+)
+alive_another due r bytes (f ∷ fs) h follows more = (r.held, h.1, h.2, subst BeginsWithFrame (no_wait r.awaited r.held h.0) more)
+
+-- these frames stand first behind what is due
+abbrev pub IsFront : List ℕ → List ℕ → List Frame → Type 0
+IsFront due bytes [] = Unit {0}
+IsFront due bytes (f ∷ fs) = (rest : List ℕ) × Follows due bytes × Reads (drop (length due) bytes) (f ∷ fs) rest
+
 front_alive : (due : List ℕ) (r : Reader) (bytes : List ℕ) (given : List Frame) → StandsAlive due r bytes given → IsFront due bytes given
 front_alive due r bytes [] h = tt
 front_alive due r bytes (f ∷ fs) h = (r.held, h.1, h.2)
@@ -168,10 +186,14 @@ front_broken due bytes [] code place b = tt
 front_broken due bytes (f ∷ fs) code place (inl b) = absurd cc
 front_broken due bytes (f ∷ fs) code place (inr b) = (b.0, b.1, b.2)
 
+front_another : (due bytes : List ℕ) (given : List Frame) → HasAnother due bytes given → IsFront due bytes given
+front_another due bytes [] h = tt
+front_another due bytes (f ∷ fs) h = (h.0, h.1, h.2)
+
 front_by : (due : List ℕ) (r : Reader) (bytes : List ℕ) (given : List Frame) (refusal : Option Refusal) → MatchOption refusal (StandsAlive due r bytes given) (λ why. StandsDead why due bytes given) → IsFront due bytes given
 front_by due r bytes given None h = front_alive due r bytes given h
 front_by due r bytes given (Some (Was.Broken code place)) h = front_broken due bytes given code place h
-front_by due r bytes given (Some Was.NoMemory) h = h
+front_by due r bytes given (Some Was.NoMemory) h = front_another due bytes given h
 
 -- the frames that a reader gave stand first in what it was fed
 pub front_of : (due : List ℕ) (r : Reader) (bytes : List ℕ) (given : List Frame) → Stands due r bytes given → IsFront due bytes given
@@ -197,7 +219,12 @@ carries_next old (Says.Refused code place) new a due bytes given h =
       | inr b ↦ alive_breaks due old bytes given code place (when_none (StandsAlive due old bytes given) (λ why. StandsDead why due bytes given) old.refusal b.0 h) b.1
     ] in
     (from_some (StandsAlive due new bytes given) (λ why. StandsDead why due bytes given) new.refusal (Was.Broken code place) a.dead broken, broken)
-carries_next old Says.NoMemory new a due bytes given h = from_some (StandsAlive due new bytes given) (λ why. StandsDead why due bytes given) new.refusal Was.NoMemory a.dead (front_of due old bytes given h)
+carries_next old Says.NoMemory new a due bytes given h =
+    let another : HasAnother due bytes given = elim a.cause [
+      | inl same ↦ when_some (StandsAlive due old bytes given) (λ why. StandsDead why due bytes given) old.refusal Was.NoMemory (ap (λ (r : Reader). r.refusal) (sym same) ∙ a.dead) h
+      | inr b ↦ alive_another due old bytes given (when_none (StandsAlive due old bytes given) (λ why. StandsDead why due bytes given) old.refusal b.0 h) b.1 b.2
+    ] in
+    (from_some (StandsAlive due new bytes given) (λ why. StandsDead why due bytes given) new.refusal Was.NoMemory a.dead another, another)
 
 -- ---- whether the bytes end behind a whole item
 
@@ -238,5 +265,5 @@ stays_dead old (Says.Refused code place) new a why e =
 stays_dead old Says.NoMemory new a why e =
     elim a.cause [
       | inl same ↦ (ap told (same_why Was.NoMemory why (sym a.dead ∙ ap (λ (r : Reader). r.refusal) same ∙ e)), same)
-      | inr alive ↦ absurd (not_dead old.refusal why alive e)
+      | inr b ↦ absurd (not_dead old.refusal why b.0 e)
     ]

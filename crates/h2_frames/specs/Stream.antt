@@ -7,7 +7,7 @@ use Rattle.h2_frames.specs.declared.reader.FrameNext.{FrameNext}
 use Rattle.h2_frames.specs.declared.reader.FrameNext.TheVariants as Says
 use Rattle.h2_frames.specs.declared.reader.Refusal.{Refusal}
 use Rattle.h2_frames.specs.declared.reader.Refusal.TheVariants as Was
-use Rattle.h2_frames.specs.Layout.{IsFrame, size_of, IsPartial, IsTooLong}
+use Rattle.h2_frames.specs.Layout.{IsFrame, size_of, IsPartial, IsTooLong, BeginsWithFrame}
 use Rattle.h2_frames.specs.Reader.{Reader}
 
 -- what a client writes before its first frame
@@ -60,10 +60,10 @@ pub record Refuses (old : Reader) (code : ErrorCode) (place : ℕ) (new : Reader
   pub dead : new.refusal ≡ Some (Was.Broken code place)
   pub cause : (new ≡ old) ⊎ ((old.refusal ≡ None) × Breaks old code place)
 
--- the reader has no memory for the frame that it holds, or had none before
+-- the reader has no memory for the whole frame that it holds, or had none before
 pub record RunsOut (old new : Reader) : Type 0 where
   pub dead : new.refusal ≡ Some Was.NoMemory
-  pub cause : (new ≡ old) ⊎ (old.refusal ≡ None)
+  pub cause : (new ≡ old) ⊎ ((old.refusal ≡ None) × Follows old.awaited old.held × BeginsWithFrame (drop (length old.awaited) old.held))
 
 -- what `next` answers, and what it leaves
 abbrev pub Answers : Reader → FrameNext → Reader → Type 0
@@ -110,14 +110,13 @@ abbrev pub StandsAlive : List ℕ → Reader → List ℕ → List Frame → Typ
 StandsAlive due r bytes [] = (r.awaited ≡ due) × (r.held ≡ bytes) × (r.place ≡ 0)
 StandsAlive due r bytes (f ∷ fs) = (r.awaited ≡ []) × Follows due bytes × Reads (drop (length due) bytes) (f ∷ fs) r.held × (r.place ≡ place_after due (f ∷ fs))
 
--- these frames stand first behind what is due
-abbrev pub IsFront : List ℕ → List ℕ → List Frame → Type 0
-IsFront due bytes [] = Unit {0}
-IsFront due bytes (f ∷ fs) = (rest : List ℕ) × Follows due bytes × Reads (drop (length due) bytes) (f ∷ fs) rest
+-- these frames stand first behind what is due, and then another whole one
+abbrev pub HasAnother : List ℕ → List ℕ → List Frame → Type 0
+HasAnother due bytes given = (rest : List ℕ) × Follows due bytes × Reads (drop (length due) bytes) given rest × BeginsWithFrame rest
 
 abbrev pub StandsDead : Refusal → List ℕ → List ℕ → List Frame → Type 0
 StandsDead (Was.Broken code place) due bytes given = IsBroken due bytes given code place
-StandsDead Was.NoMemory due bytes given = IsFront due bytes given
+StandsDead Was.NoMemory due bytes given = HasAnother due bytes given
 
 -- The reader was made with this due, was fed these bytes and gave these frames.
 abbrev pub Stands : List ℕ → Reader → List ℕ → List Frame → Type 0
@@ -127,7 +126,7 @@ abbrev pub StandsAfter : FrameNext → List ℕ → Reader → List ℕ → List
 StandsAfter (Says.Frame f) due new bytes given = Stands due new bytes (given ++ f ∷ [])
 StandsAfter Says.NeedMore due new bytes given = Stands due new bytes given × ((rest : List ℕ) × Frames due bytes given rest)
 StandsAfter (Says.Refused code place) due new bytes given = Stands due new bytes given × IsBroken due bytes given code place
-StandsAfter Says.NoMemory due new bytes given = Stands due new bytes given
+StandsAfter Says.NoMemory due new bytes given = Stands due new bytes given × HasAnother due bytes given
 
 -- a piece makes the bytes so far the old ones followed by the piece
 abbrev pub CarriesPiece : Reader → List ℕ → Reader → Type 0
