@@ -7,7 +7,7 @@ use Rattle.grpc_heads.specs.declared.head.HeadRead.{HeadRead}
 use Rattle.grpc_heads.specs.declared.head.HeadRead.TheVariants as head
 use Rattle.grpc_heads.specs.declared.head.Method.{Method}
 use Rattle.grpc_heads.specs.declared.head.Method.TheVariants.{Modify, Get, Flush}
-use Rattle.grpc_heads.specs.Malformed.{is_malformed, is_named}
+use Rattle.hpack_tables.specs.Malformed.{is_malformed_request, is_named}
 
 -- the value of the first field of a name
 abbrev pub first_value : List ℕ → List Field → Option (List ℕ)
@@ -72,7 +72,7 @@ call_of fields =
 -- the first refusal, or the method
 unfoldable pub head_of : List Field → HeadRead
 head_of fields =
-    if is_malformed fields then head.Malformed
+    if is_malformed_request fields then head.Malformed
     else if not (is_text (codes "POST") (first_value (codes ":method") fields)) then head.Http 405
     else if not (is_grpc (first_value (codes "content-type") fields)) then head.Http 415
     else call_of fields

@@ -1,5 +1,4 @@
 pub mod Ending
 pub mod Heads
-pub mod Malformed
 pub mod Trailers
 pub mod Written

@@ -1,51 +1,102 @@
 //! Malformed heads of requests.
-ghost use Rattle.std.specs.Prelude.{◌≡◌, ◌<◌, not, length, IfSome};
-ghost use Rattle.std.specs.List.{list_all, list_any, position};
+ghost use Rattle.std.specs.Prelude.{◌≡◌, ◌==◌, ◌&&◌, not, nat_lt, codes};
+ghost use Rattle.std.specs.List.{list_all, list_any};
 ghost use Rattle.std.specs.Str.{bytes_eq};
 ghost use Rattle.http_header.specs.FieldName.{is_header_name};
 ghost use Rattle.http_header.specs.Token.{is_value_byte};
-ghost use Rattle.grpc_heads.specs.Malformed as spec;
+ghost use Rattle.hpack_tables.specs.Malformed as spec;
 
 use hpack_tables::Field;
 
-#[tactic(auto, unfolding(crate::specs::Malformed::is_malformed))]
 pub fn is_malformed(fields: &[Field]) -> bool
-    ensures { result ≡ spec.is_malformed fields.now }
+    ensures { result ≡ spec.is_malformed_request fields.now }
 {
     has_bad_field(fields) || has_late_pseudo(fields) || has_doubled(fields) || lacks(fields)
 }
 
 fn has_bad_field(fields: &[Field]) -> bool
-    ensures { result ≡ spec.has_bad_field fields.now }
+    ensures { result ≡ list_any (spec.is_bad_field spec.request_may_have) fields.now }
 {
     fields.iter().any(|f| is_bad(f))
 }
 
 fn is_bad(field: &Field) -> bool
-    ensures { result ≡ spec.is_bad field.now }
+    ensures { result ≡ spec.is_bad_field spec.request_may_have field.now }
 {
-    is_misnamed(field) || is_misvalued(field) || is_unknown(field) || is_of_connection(field)
+    !has_value(field)
+        || is_pseudo(field) && !is_known(field.name.as_slice())
+        || !is_pseudo(field) && is_bad_regular(field)
+}
+
+fn is_bad_regular(field: &Field) -> bool
+    ensures { result ≡ spec.is_bad_regular field.now }
+{
+    !has_name(field) || is_barred(field.name.as_slice()) || is_other_te(field)
+}
+
+fn is_other_te(field: &Field) -> bool
+    ensures { result ≡ (spec.is_named (codes "te") field.now && not (bytes_eq field.now.value (codes "trailers"))) }
+{
+    equal(field.name.as_slice(), b"te") && !equal(field.value.as_slice(), b"trailers")
+}
+
+fn has_late_pseudo(fields: &[Field]) -> bool
+    ensures { result ≡ spec.has_late_pseudo fields.now }
+{
+    fields
+        .iter()
+        .skip_while(|f| is_pseudo(*f))
+        .any(|f| is_pseudo(f))
 }
 
 fn has_doubled(fields: &[Field]) -> bool
-    ensures { result ≡ spec.has_doubled fields.now }
+    ensures { result ≡ list_any (λ name. nat_lt 1 (spec.times fields.now name)) spec.request_may_have }
 {
-    is_doubled(fields, b":method")
-        || is_doubled(fields, b":scheme")
-        || is_doubled(fields, b":path")
-        || is_doubled(fields, b":authority")
+    times(fields, b":method") > 1
+        || times(fields, b":scheme") > 1
+        || times(fields, b":path") > 1
+        || times(fields, b":authority") > 1
 }
 
 fn lacks(fields: &[Field]) -> bool
-    ensures { result ≡ spec.lacks fields.now }
+    ensures { result ≡ list_any (λ name. spec.times fields.now name == 0) spec.request_needs }
 {
-    !has(fields, b":method") || !has(fields, b":scheme") || !has(fields, b":path")
+    times(fields, b":method") == 0 || times(fields, b":scheme") == 0 || times(fields, b":path") == 0
 }
 
-fn is_pseudo(name: &[u8]) -> bool
-    ensures { result ≡ spec.is_pseudo name.now }
+fn times(fields: &[Field], name: &[u8]) -> usize
+    ensures { result ≡ spec.times fields.now name.now }
 {
+    fields
+        .iter()
+        .filter(|f| equal(f.name.as_slice(), name))
+        .count()
+}
+
+fn is_pseudo(field: &Field) -> bool
+    ensures { result ≡ spec.is_pseudo field.now }
+{
+    let name = field.name.as_slice();
     !name.is_empty() && name[0] == b':'
+}
+
+fn is_known(name: &[u8]) -> bool
+    ensures { result ≡ spec.is_among spec.request_may_have name.now }
+{
+    equal(b":method", name)
+        || equal(b":scheme", name)
+        || equal(b":path", name)
+        || equal(b":authority", name)
+}
+
+fn is_barred(name: &[u8]) -> bool
+    ensures { result ≡ spec.is_among spec.barred name.now }
+{
+    equal(b"connection", name)
+        || equal(b"proxy-connection", name)
+        || equal(b"keep-alive", name)
+        || equal(b"transfer-encoding", name)
+        || equal(b"upgrade", name)
 }
 
 fn has_name(field: &Field) -> bool
@@ -58,95 +109,6 @@ fn has_value(field: &Field) -> bool
     ensures { result ≡ list_all is_value_byte field.now.value }
 {
     field.has_header_value()
-}
-
-fn is_misnamed(field: &Field) -> bool
-    ensures { result ≡ spec.is_misnamed field.now }
-{
-    !is_pseudo(field.name.as_slice()) && !has_name(field)
-}
-
-fn is_misvalued(field: &Field) -> bool
-    ensures { result ≡ spec.is_misvalued field.now }
-{
-    !has_value(field)
-}
-
-fn is_unknown(field: &Field) -> bool
-    ensures { result ≡ spec.is_unknown field.now }
-{
-    let name = field.name.as_slice();
-    is_pseudo(name)
-        && !(equal(name, b":method")
-            || equal(name, b":scheme")
-            || equal(name, b":path")
-            || equal(name, b":authority"))
-}
-
-fn is_of_connection(field: &Field) -> bool
-    ensures { result ≡ spec.is_of_connection field.now }
-{
-    let name = field.name.as_slice();
-    equal(name, b"connection")
-        || equal(name, b"proxy-connection")
-        || equal(name, b"keep-alive")
-        || equal(name, b"transfer-encoding")
-        || equal(name, b"upgrade")
-        || (equal(name, b"te") && !equal(field.value.as_slice(), b"trailers"))
-}
-
-fn has_late_pseudo(fields: &[Field]) -> bool
-    ensures { result ≡ spec.has_late_pseudo fields.now }
-{
-    match first_regular(fields) {
-        None => false,
-        Some(place) => {
-            let (_, rest) = fields.split_at(place);
-            has_pseudo(rest)
-        }
-    }
-}
-
-#[tactic(auto, using(crate::proofs::Names::place_within))]
-fn first_regular(fields: &[Field]) -> Option<usize>
-    ensures place { result ≡ position (λ f. not (spec.is_pseudo f.name)) fields.now }
-    ensures within { IfSome result (λ place. place < length fields.now) }
-{
-    fields.iter().position(|f| !is_pseudo(f.name.as_slice()))
-}
-
-fn has_pseudo(fields: &[Field]) -> bool
-    ensures { result ≡ list_any (λ f. spec.is_pseudo f.name) fields.now }
-{
-    fields.iter().any(|f| is_pseudo(f.name.as_slice()))
-}
-
-fn is_doubled(fields: &[Field], name: &[u8]) -> bool
-    ensures { result ≡ spec.is_doubled fields.now name.now }
-{
-    match first_named(fields, name) {
-        None => false,
-        Some(place) => {
-            let (_, rest) = fields.split_at(place + 1);
-            has(rest, name)
-        }
-    }
-}
-
-#[tactic(auto, using(crate::proofs::Names::place_within))]
-fn first_named(fields: &[Field], name: &[u8]) -> Option<usize>
-    ensures place { result ≡ position (spec.is_named name.now) fields.now }
-    ensures within { IfSome result (λ place. place < length fields.now) }
-{
-    fields.iter().position(|f| equal(f.name.as_slice(), name))
-}
-
-fn has(fields: &[Field], name: &[u8]) -> bool
-    ensures { result ≡ spec.has fields.now name.now }
-{
-    fields
-        .iter()
-        .any(|field| equal(field.name.as_slice(), name))
 }
 
 pub fn equal(text: &[u8], other: &[u8]) -> bool

@@ -2,6 +2,7 @@ pub mod Answers
 pub mod Decoder
 pub mod Entries
 pub mod Laws
+pub mod Malformed
 pub mod Marks
 pub mod Progress
 pub mod Reading
