@@ -1,7 +1,8 @@
 -- What holds of the frames of every list of bytes.
-use Rattle.std.specs.Prelude.{◌≡◌, ℕ, List, ◌++◌}
+use Rattle.std.specs.Prelude.{◌≡◌, ℕ, List, [], ◌∷◌, ◌++◌, map}
 use Rattle.std.specs.List.{flat_map}
 use Rattle.h2_frames.specs.declared.code.ErrorCode.{ErrorCode}
+use Rattle.h2_frames.specs.declared.code.TheConstants.ErrorCode as codes_of
 use Rattle.h2_frames.specs.declared.frame.Frame.{Frame}
 use Rattle.h2_frames.specs.Layout.{frame_text, IsPartial}
 use Rattle.h2_frames.specs.Stream.{Frames, IsBroken}
@@ -23,3 +24,14 @@ HaveOneReading = (due bytes : List ℕ) (fs gs : List Frame) (e d : Ending) → 
 -- frames that were written behind what is due are read again, whatever part of a frame follows them
 abbrev pub AreReadAgain : Type 0
 AreReadAgain = (due rest : List ℕ) (fs : List Frame) → IsPartial rest → Frames due (due ++ (flat_map frame_text fs ++ rest)) fs rest
+
+-- the numbers of the error codes (RFC 9113, section 7)
+abbrev pub ErrorCodesAreNumbered : Type 0
+ErrorCodesAreNumbered =
+    map (λ (c : ErrorCode). c.0) (
+    codes_of.NO_ERROR ∷ codes_of.PROTOCOL_ERROR ∷ codes_of.INTERNAL_ERROR ∷ codes_of.FLOW_CONTROL_ERROR
+    ∷ codes_of.SETTINGS_TIMEOUT ∷ codes_of.STREAM_CLOSED ∷ codes_of.FRAME_SIZE_ERROR ∷ codes_of.REFUSED_STREAM
+    ∷ codes_of.CANCEL ∷ codes_of.COMPRESSION_ERROR ∷ codes_of.CONNECT_ERROR ∷ codes_of.ENHANCE_YOUR_CALM
+    ∷ codes_of.INADEQUATE_SECURITY ∷ codes_of.HTTP_1_1_REQUIRED ∷ []
+    )
+    ≡ 0 ∷ 1 ∷ 2 ∷ 3 ∷ 4 ∷ 5 ∷ 6 ∷ 7 ∷ 8 ∷ 9 ∷ 10 ∷ 11 ∷ 12 ∷ 13 ∷ []
