@@ -20,7 +20,7 @@ use Rattle.h2_streams.proofs.Sends.{if_test, when_test, front_true, back_true, r
 
 -- ---- a stream that was replaced
 
-found_again : (k : ℕ) (new old : Stream) (xs : List Stream) → is_stream k new ≡ true → find (is_stream k) xs ≡ Some old → find (is_stream k) (replaced k new xs) ≡ Some new
+pub found_again : (k : ℕ) (new old : Stream) (xs : List Stream) → is_stream k new ≡ true → find (is_stream k) xs ≡ Some old → find (is_stream k) (replaced k new xs) ≡ Some new
 found_again k new old [] e f = absurd cc
 found_again k new old (s ∷ xs) e f = by (is_stream k s) (find (is_stream k) xs) (find (is_stream k) (replaced k new xs)) refl (λ g. found_again k new old xs e g) f
   where

@@ -9,3 +9,7 @@ pub mod SettingsRead
 pub mod Judged
 pub mod Quiet
 pub mod Credits
+pub mod Sound
+pub mod Places
+pub mod Kept
+pub mod ReceivedFrames

@@ -4,7 +4,8 @@ use Rattle.std.proofs.Common.{◌≡◌, ℕ, suc, ◌*◌, Bool, true, false, �
 use Rattle.std.specs.Int.{w16, w32, from_be_bytes}
 use Rattle.std.proofs.lemmas.List.{length-drop}
 use Rattle.std.proofs.Math.Seq.{drop-cons}
-use Rattle.h2_exchange.specs.Windows.{settings_of}
+use Rattle.std.specs.Prelude.{◌==◌, if◌then◌else◌}
+use Rattle.h2_exchange.specs.Windows.{setting, settings_of}
 
 cell : (xs : List ℕ) (i j : ℕ) → i < length xs → suc i ≡ j → drop i xs ≡ get_or xs i 0 ∷ drop j xs
 cell xs i j lt e = drop-cons xs i 0 lt ∙ ap (λ (k : ℕ). get_or xs i 0 ∷ drop k xs) e
@@ -46,3 +47,10 @@ skips_setting test xs i s all h e f =
 -- one that passes is found
 pub finds_setting : (test : ℕ × ℕ → Bool) (xs : List ℕ) (i : ℕ) (s : ℕ × ℕ) (all : Bool) → all ≡ list_any test (settings_of (drop (6 * i) xs)) → settings_of (drop (6 * i) xs) ≡ s ∷ settings_of (drop (6 * i + 6) xs) → test s ≡ true → true ≡ all
 finds_setting test xs i s all h e f = sym (h ∙ ap (list_any test) e ∙ ap (λ (b : Bool). b || list_any test (settings_of (drop (6 * i + 6) xs))) f)
+
+-- a setting may be the one that is sought, and is behind it
+pub passes_setting : (number : ℕ) (xs : List ℕ) (i first value : ℕ) (s : ℕ × ℕ) → first ≡ setting number value (settings_of (drop (6 * i) xs)) → settings_of (drop (6 * i) xs) ≡ s ∷ settings_of (drop (6 * i + 6) xs) →
+    first ≡ setting number (if s.0 == number then s.1 else value) (settings_of (drop (6 * (i + 1)) xs))
+passes_setting number xs i first value s h e =
+    let next : 6 * i + 6 ≡ 6 * (i + 1) = omega arith in
+    h ∙ ap (setting number value) e ∙ ap (λ (k : ℕ). setting number (if s.0 == number then s.1 else value) (settings_of (drop k xs))) next

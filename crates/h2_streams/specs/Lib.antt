@@ -1,5 +1,6 @@
 pub mod Judging
 pub mod Laws
 pub mod Live
+pub mod Receiving
 pub mod Set
 pub mod Stands

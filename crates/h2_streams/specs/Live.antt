@@ -1,6 +1,10 @@
 -- The list of live streams.
-use Rattle.std.specs.Prelude.{ℕ, ◌+◌, ◌==◌, ◌&&◌, Bool, not, List, map, filter, nat_lt, if◌then◌else◌}
+use Rattle.std.specs.Prelude.{◌≡◌, ℕ, ◌+◌, ◌<◌, ◌==◌, ◌&&◌, Bool, true, false, not, List, ◌++◌, length, map, filter, find, nat_lt, [], ◌∷◌, Option, Some, None, if◌then◌else◌}
 use Rattle.std.specs.List.{list_any}
+use Rattle.h2_exchange.specs.declared.role.Role.{Role}
+use Rattle.h2_exchange.specs.declared.role.Role.TheVariants.{Client, Server}
+use Rattle.h2_streams.specs.declared.live.Fate.{Fate}
+use Rattle.h2_streams.specs.declared.live.Fate.TheVariants.{Unseen, Over, Alive}
 use Rattle.h2_streams.specs.declared.live.Stream.{Stream}
 
 abbrev pub is_stream : ℕ → Stream → Bool
@@ -19,3 +23,27 @@ is_raised size s = nat_lt 4294967295 (size + s.room)
 -- a setting is an initial window that raises a live stream's window so
 abbrev pub is_raising : List Stream → ℕ × ℕ → Bool
 is_raising live s = s.0 == 4 && list_any (is_raised s.1) live
+
+-- the streams behind what becomes of one of them, or of a new one, which comes last
+abbrev pub settled : Bool → ℕ → Fate → List Stream → List Stream
+settled new id Unseen live = live
+settled true id Over live = live
+settled true id (Alive stream) live = live ++ stream ∷ []
+settled false id Over live = without id live
+settled false id (Alive stream) live = replaced id stream live
+
+-- ---- the place of a new stream
+
+abbrev pub is_headless : Option Stream → Bool
+is_headless None = false
+is_headless (Some stream) = not stream.has_head
+
+-- the stream of the open header block waits for its head
+abbrev pub is_waiting : Option (ℕ × Bool) → List Stream → Bool
+is_waiting None live = false
+is_waiting (Some block) live = is_headless (find (is_stream block.0) live)
+
+-- A server has a place for one more stream than it allows, whose head may still be refused.
+abbrev pub HasPlace : Role → ℕ → ℕ → Option (ℕ × Bool) → List Stream → Type 0
+HasPlace Client streams places block live = Unit {0}
+HasPlace Server streams places block live = (streams < places) × (is_waiting block live ≡ false → length live < places)

@@ -1,6 +1,10 @@
 //! The streams that are live, in the order of their ids.
-ghost use Rattle.std.specs.Prelude.{◌≡◌, find, if◌then◌else◌};
-ghost use Rattle.h2_streams.specs.Live.{is_stream, replaced, without};
+ghost use Rattle.std.specs.Prelude.{◌≡◌, ◌<◌, true, length, find, if◌then◌else◌};
+ghost use Rattle.std.specs.Vec.{vec_capacity, vec_len};
+ghost use Rattle.h2_streams.specs.Live.{is_stream, replaced, settled, without};
+ghost use Rattle.h2_streams.specs.Set.{new_stream};
+
+use h2_exchange::H2Limits;
 
 /// A stream that is live.
 #[derive(Clone, Copy, Debug)]
@@ -15,6 +19,31 @@ pub struct Stream {
     pub receive: u32,
 }
 
+/// What becomes of a frame's stream.
+#[derive(Clone, Copy, Debug)]
+pub enum Fate {
+    /// The frame stands on no live stream.
+    Unseen,
+    Over,
+    Alive(Stream),
+}
+
+impl Stream {
+    /// A stream as its HEADERS leave it.
+    pub fn new(limits: H2Limits, id: u32) -> Stream
+        ensures { result ≡ new_stream limits id }
+    {
+        Stream {
+            id,
+            is_ended_here: false,
+            is_ended_there: false,
+            has_head: false,
+            room: 2_147_483_648,
+            receive: limits.window,
+        }
+    }
+}
+
 pub fn find(live: &[Stream], id: u32) -> Option<Stream>
     ensures { result ≡ find (is_stream id) live.now }
 {
@@ -27,7 +56,7 @@ fn chosen(id: u32, new: Stream, old: Stream) -> Stream
     if old.id == id { new } else { old }
 }
 
-pub fn replace(live: &mut [Stream], id: u32, new: Stream)
+fn replace(live: &mut [Stream], id: u32, new: Stream)
     ensures { live.new ≡ replaced id new live.old }
 {
     for stream in live.iter_mut() {
@@ -36,7 +65,39 @@ pub fn replace(live: &mut [Stream], id: u32, new: Stream)
 }
 
 pub fn remove(live: &mut Vec<Stream>, id: u32)
-    ensures { live.new.items ≡ without id live.old.items }
+    ensures items { live.new.items ≡ without id live.old.items }
+    ensures capacity { vec_capacity live.new ≡ vec_capacity live.old }
 {
     live.retain(|stream| stream.id != id);
+}
+
+/// Puts a stream in the place of the one with this id.
+pub fn put(live: &mut Vec<Stream>, id: u32, new: Stream)
+    ensures items { live.new.items ≡ replaced id new live.old.items }
+    ensures capacity { vec_capacity live.new ≡ vec_capacity live.old }
+{
+    replace(live.as_mut_slice(), id, new);
+}
+
+/// Puts what becomes of a stream, or of a new one, which comes last.
+pub fn settle(live: &mut Vec<Stream>, is_new: bool, id: u32, fate: Fate)
+    requires { is_new ≡ true → vec_len live.old < vec_capacity live.old }
+    ensures items { live.new.items ≡ settled is_new id fate live.old.items }
+    ensures capacity { vec_capacity live.new ≡ vec_capacity live.old }
+{
+    match fate {
+        Fate::Unseen => {}
+        Fate::Over => {
+            if !is_new {
+                remove(live, id);
+            }
+        }
+        Fate::Alive(stream) => {
+            if is_new {
+                live.push_reserved(stream);
+            } else {
+                put(live, id, stream);
+            }
+        }
+    }
 }

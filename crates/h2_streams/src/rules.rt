@@ -31,6 +31,12 @@ pub fn is_priority(frame: &Frame) -> bool
     matches!(frame, Frame::Priority(_))
 }
 
+pub fn is_rst_stream(frame: &Frame) -> bool
+    ensures { result ≡ say.is_rst_stream frame.now }
+{
+    matches!(frame, Frame::RstStream(_))
+}
+
 pub fn is_window_update(frame: &Frame) -> bool
     ensures { result ≡ say.is_window_update frame.now }
 {
@@ -62,7 +68,7 @@ fn is_idle(greatest: u32, id: u32) -> bool
     id % 2 != 1 || greatest < id
 }
 
-fn is_client(role: Role) -> bool
+pub fn is_client(role: Role) -> bool
     ensures { result ≡ rule.is_client role }
 {
     match role {

@@ -11,6 +11,7 @@ ghost use Rattle.h2_streams.specs.Set.{Set, fresh, at, is_open_in, begun, next_i
 ghost use Rattle.h2_streams.specs.Stands.{StandsFor};
 
 mod judge;
+mod receive;
 
 use crate::live::{self, Stream};
 use h2_exchange::{H2Limits, Role, SendFault};
@@ -41,6 +42,8 @@ pub struct StreamSet {
 
 impl Model for StreamSet {
     ghost use Rattle.std.specs.Prelude.{option_map};
+    ghost use Rattle.std.specs.Vec.{vec_capacity};
+    ghost use Rattle.h2_streams.specs.Live.{HasPlace};
     ghost use Rattle.h2_streams.specs.Set.{Set};
 
     ghost Value = { Set };
@@ -56,6 +59,8 @@ impl Model for StreamSet {
       send = s.send;
       receive = s.receive;
     } };
+
+    ghost invariant = { λ s. HasPlace s.role s.limits.streams (vec_capacity s.live) (option_map (λ b. (b.stream, b.last)) s.block) s.live.items };
 }
 
 impl StreamSet {
@@ -127,6 +132,7 @@ impl StreamSet {
     }
 
     fn begin_next(&mut self) -> Result<u32, SendFault>
+        requires { self.old.role ≡ Client }
         ensures ok { IfOk result (λ id. (id ≡ next_id self.old.highest) × (self.new ≡ begun id self.old)) }
         ensures err { OnErr result (self.new ≡ self.old) }
         ensures fits { IfOk result (λ id. id < 2 ^ 31) }
@@ -141,15 +147,7 @@ impl StreamSet {
         } else {
             self.highest + 2
         };
-        let stream = Stream {
-            id,
-            is_ended_here: false,
-            is_ended_there: false,
-            has_head: false,
-            room: 2_147_483_648,
-            receive: self.limits.window,
-        };
-        if self.live.push(stream).is_err() {
+        if self.live.push(Stream::new(self.limits, id)).is_err() {
             return Err(SendFault::NoMemory);
         }
         self.highest = id;
@@ -181,7 +179,7 @@ impl StreamSet {
                 is_ended_here: true,
                 ..found
             };
-            live::replace(self.live.as_mut_slice(), stream, ended);
+            live::put(&mut self.live, stream, ended);
         }
     }
 
@@ -245,7 +243,7 @@ impl StreamSet {
             room: found.room.saturating_sub(n),
             ..found
         };
-        live::replace(self.live.as_mut_slice(), stream, less);
+        live::put(&mut self.live, stream, less);
         self.send = self.send.saturating_sub(n);
     }
 
@@ -287,6 +285,6 @@ impl StreamSet {
             receive: found.receive + n,
             ..found
         };
-        live::replace(self.live.as_mut_slice(), stream, more);
+        live::put(&mut self.live, stream, more);
     }
 }

@@ -1,8 +1,8 @@
 //! The settings of a payload.
-ghost use Rattle.std.specs.Prelude.{◌≡◌, ◌+◌, ◌≤◌, ◌∷◌, drop, length};
+ghost use Rattle.std.specs.Prelude.{◌≡◌, ◌+◌, ◌≤◌, ◌==◌, ◌∷◌, drop, length, if◌then◌else◌};
 ghost use Rattle.std.specs.List.{list_any};
 ghost use Rattle.h2_exchange.specs.Rules as rule;
-ghost use Rattle.h2_exchange.specs.Windows.{settings_of};
+ghost use Rattle.h2_exchange.specs.Windows.{setting, settings_of};
 ghost use Rattle.h2_streams.specs.Live.{is_raised, is_raising};
 
 use crate::live::Stream;
@@ -68,6 +68,28 @@ pub fn settings_error(role: Role, payload: &[u8]) -> Option<ErrorCode>
         }
     }
     None
+}
+
+fn window_behind(value: u32, setting: Setting) -> u32
+    ensures { result ≡ (if setting.number == 4 then setting.value else value) }
+{
+    if setting.number == INITIAL_WINDOW_SIZE {
+        setting.value
+    } else {
+        value
+    }
+}
+
+/// INITIAL_WINDOW_SIZE as the settings leave it.
+pub fn initial_window(first: u32, payload: &[u8]) -> u32
+    ensures { result ≡ setting 4 first (settings_of payload.now) }
+{
+    let mut value = first;
+    for i in 0..payload.len() / 6 {
+        let setting = setting_at(payload, 6 * i);
+        value = window_behind(value, setting);
+    }
+    value
 }
 
 fn any_raised(live: &[Stream], size: u32) -> bool

@@ -17,7 +17,7 @@ use h2_exchange::Role;
 use h2_frames::{ErrorCode, Frame};
 
 /// The increment of a WINDOW_UPDATE.
-fn increment(payload: &[u8]) -> u32
+pub(super) fn increment(payload: &[u8]) -> u32
     requires { length payload.now ≡ 4 }
     ensures { result ≡ from_be_bytes w32 (take 4 payload.now) % 2 ^ 31 }
 {
@@ -83,7 +83,7 @@ impl StreamSet {
     }
 
     #[tactic(auto, using(crate::proofs::Judged::four_long))]
-    fn frame_error(&self, frame: &Frame) -> Option<ErrorCode>
+    pub(super) fn frame_error(&self, frame: &Frame) -> Option<ErrorCode>
         ensures { result ≡ frame_error_in self.now frame.now }
     {
         if let Some(code) = self.shape_error(frame) {
@@ -95,7 +95,7 @@ impl StreamSet {
         self.window_error(frame)
     }
 
-    fn live_error(&self, frame: &Frame, stream: Stream) -> Option<ErrorCode>
+    pub(super) fn live_error(&self, frame: &Frame, stream: Stream) -> Option<ErrorCode>
         requires { say.is_window_update frame.now ≡ true → say.payload_length frame.now ≡ 4 }
         ensures { result ≡ live_error_in self.now frame.now stream }
     {

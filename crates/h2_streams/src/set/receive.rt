@@ -1,0 +1,251 @@
+//! What a received frame does to the streams.
+ghost use Rattle.std.specs.Prelude.{◌≡◌, ◌+◌, ◌<◌, ◌^◌, ◌==◌, true, None, option_map, if◌then◌else◌};
+ghost use Rattle.h2_exchange.specs.Frames as say;
+ghost use Rattle.h2_exchange.specs.Windows.{setting, settings_in};
+ghost use Rattle.h2_streams.specs.Judging.{frame_error_in};
+ghost use Rattle.h2_streams.specs.Receiving as hear;
+
+use super::{OpenBlock, StreamSet};
+use crate::live::{self, Fate, Stream};
+use crate::set::judge::increment;
+use crate::{rules, settings};
+use h2_exchange::StreamFault;
+use h2_frames::{ErrorCode, Frame};
+
+const END_STREAM: u8 = 1;
+
+const END_HEADERS: u8 = 4;
+
+/// The header block so far that a frame is part of.
+fn block_with(opened: Option<OpenBlock>, frame: &Frame) -> Option<OpenBlock>
+    ensures { option_map (λ b. (b.stream, b.last)) result ≡ hear.block_with (option_map (λ b. (b.stream, b.last)) opened) frame.now }
+{
+    match (opened, frame) {
+        (None, Frame::Headers(body)) => Some(OpenBlock {
+            stream: body.stream,
+            last: rules::has_flag(frame, END_STREAM),
+        }),
+        (Some(block), Frame::Continuation(_)) => Some(block),
+        _ => None,
+    }
+}
+
+/// The header block that a frame completes.
+fn completed_by(opened: Option<OpenBlock>, frame: &Frame) -> Option<OpenBlock>
+    ensures { option_map (λ b. (b.stream, b.last)) result ≡ hear.completed_by (option_map (λ b. (b.stream, b.last)) opened) frame.now }
+{
+    if rules::has_flag(frame, END_HEADERS) {
+        block_with(opened, frame)
+    } else {
+        None
+    }
+}
+
+/// The header block that is open behind a frame.
+fn left_open(opened: Option<OpenBlock>, frame: &Frame) -> Option<OpenBlock>
+    ensures { option_map (λ b. (b.stream, b.last)) result ≡ hear.left_open (option_map (λ b. (b.stream, b.last)) opened) frame.now }
+{
+    if rules::has_flag(frame, END_HEADERS) {
+        None
+    } else {
+        block_with(opened, frame)
+    }
+}
+
+/// How many bytes of DATA a frame counts.
+fn counted(frame: &Frame) -> u32
+    ensures { result ≡ say.counted frame.now }
+{
+    match frame {
+        Frame::Content(body) => body.payload.len() as u32,
+        _ => 0,
+    }
+}
+
+/// How many bytes a frame grants.
+fn granted(frame: &Frame) -> u32
+    requires { say.is_window_update frame.now ≡ true → say.payload_length frame.now ≡ 4 }
+    ensures { result ≡ hear.granted_by frame.now }
+{
+    match frame {
+        Frame::WindowUpdate(body) => increment(body.payload.as_slice()),
+        _ => 0,
+    }
+}
+
+/// INITIAL_WINDOW_SIZE behind a frame.
+fn initial_behind(initial: u32, frame: &Frame) -> u32
+    ensures { result ≡ setting 4 initial (settings_in frame.now) }
+{
+    if rules::is_setting(frame) {
+        settings::initial_window(initial, frame.body().payload.as_slice())
+    } else {
+        initial
+    }
+}
+
+/// How many bytes may be sent on all streams together, behind a frame.
+fn send_behind(send: u32, frame: &Frame) -> u32
+    requires four { say.is_window_update frame.now ≡ true → say.payload_length frame.now ≡ 4 }
+    requires fits { send + (if say.stream_of frame.now == 0 then hear.granted_by frame.now else 0) < 2 ^ 32 }
+    ensures { result ≡ send + (if say.stream_of frame.now == 0 then hear.granted_by frame.now else 0) }
+{
+    if frame.body().stream == 0 {
+        send + granted(frame)
+    } else {
+        send
+    }
+}
+
+fn highest_behind(highest: u32, is_new: bool, id: u32) -> u32
+    ensures { result ≡ (if is_new then id else highest) }
+{
+    if is_new { id } else { highest }
+}
+
+impl StreamSet {
+    fn is_new(&self, frame: &Frame) -> bool
+        ensures { result ≡ hear.is_new_in self.now frame.now }
+    {
+        let id = frame.body().stream;
+        let is_above = rules::is_headers(frame) && id % 2 == 1 && self.highest < id;
+        !rules::is_client(self.role) && is_above && !self.has(id)
+    }
+
+    /// The live stream of a frame, or the one that it begins.
+    fn seen(&self, frame: &Frame, is_new: bool) -> Option<Stream>
+        requires { is_new ≡ hear.is_new_in self.now frame.now }
+        ensures { result ≡ hear.seen_in self.now frame.now }
+    {
+        let id = frame.body().stream;
+        if is_new {
+            Some(Stream::new(self.limits, id))
+        } else {
+            live::find(self.live.as_slice(), id)
+        }
+    }
+
+    /// There is no room for one more stream: only a server refuses any.
+    fn is_full(&self, frame: &Frame, is_new: bool) -> bool
+        requires { is_new ≡ hear.is_new_in self.now frame.now }
+        ensures { result ≡ hear.is_full_in self.now frame.now }
+    {
+        let live = self.live.len();
+        let others = if is_new { live } else { live.saturating_sub(1) };
+        !rules::is_client(self.role) && others >= self.limits.streams as usize
+    }
+
+    fn block_error(&self, frame: &Frame, is_new: bool, stream: Stream) -> Option<ErrorCode>
+        requires { is_new ≡ hear.is_new_in self.now frame.now }
+        ensures { result ≡ hear.block_error_in self.now frame.now stream (hear.completed_by self.now.block frame.now) }
+    {
+        let block = completed_by(self.block, frame)?;
+        if stream.is_ended_there {
+            Some(ErrorCode::STREAM_CLOSED)
+        } else if stream.has_head && !block.last {
+            Some(ErrorCode::PROTOCOL_ERROR)
+        } else if !stream.has_head && self.is_full(frame, is_new) {
+            Some(ErrorCode::REFUSED_STREAM)
+        } else {
+            None
+        }
+    }
+
+    /// The stream error of a frame that is no connection error.
+    fn fault(&self, frame: &Frame, is_new: bool, seen: Option<Stream>) -> Option<ErrorCode>
+        requires is_new { is_new ≡ hear.is_new_in self.now frame.now }
+        requires four { say.is_window_update frame.now ≡ true → say.payload_length frame.now ≡ 4 }
+        ensures { result ≡ hear.fault_on self.now frame.now seen }
+    {
+        let stream = seen?;
+        if let Some(code) = self.live_error(frame, stream) {
+            return Some(code);
+        }
+        self.block_error(frame, is_new, stream)
+    }
+
+    /// The stream as a frame that breaks no rule leaves it.
+    fn changed(&self, frame: &Frame, stream: Stream) -> Stream
+        requires four { say.is_window_update frame.now ≡ true → say.payload_length frame.now ≡ 4 }
+        requires fits { stream.room + hear.granted_by frame.now < 2 ^ 32 }
+        ensures { result ≡ hear.changed_in self.now frame.now stream }
+    {
+        let block = completed_by(self.block, frame);
+        let is_last = match block {
+            Some(block) => block.last,
+            None => false,
+        };
+        let ends = rules::is_data(frame) && rules::has_flag(frame, END_STREAM) || is_last;
+        Stream {
+            id: stream.id,
+            is_ended_here: stream.is_ended_here,
+            is_ended_there: stream.is_ended_there || ends,
+            has_head: stream.has_head || block.is_some(),
+            room: stream.room + granted(frame),
+            receive: stream.receive.saturating_sub(counted(frame)),
+        }
+    }
+
+    fn left_as(&self, frame: &Frame, stream: Stream) -> Fate
+        requires four { say.is_window_update frame.now ≡ true → say.payload_length frame.now ≡ 4 }
+        requires fits { stream.room + hear.granted_by frame.now < 2 ^ 32 }
+        ensures { result ≡ hear.left_as frame.now (hear.changed_in self.now frame.now stream) }
+    {
+        let left = self.changed(frame, stream);
+        if rules::is_rst_stream(frame) || left.is_ended_there && left.is_ended_here {
+            Fate::Over
+        } else {
+            Fate::Alive(left)
+        }
+    }
+
+    /// What becomes of the stream of a frame.
+    fn fate(&self, frame: &Frame, fault: Option<ErrorCode>, seen: Option<Stream>) -> Fate
+        requires four { say.is_window_update frame.now ≡ true → say.payload_length frame.now ≡ 4 }
+        requires fault { fault ≡ hear.fault_on self.now frame.now seen }
+        ensures { result ≡ hear.fate_on self.now frame.now fault seen }
+    {
+        match (seen, fault) {
+            (None, _) => Fate::Unseen,
+            (Some(_), Some(_)) => Fate::Over,
+            (Some(stream), None) => self.left_as(frame, stream),
+        }
+    }
+
+    /// Takes a frame that is no connection error.
+    #[tactic(auto, using(crate::proofs::Judged::four_long))]
+    fn take(&mut self, frame: &Frame, is_new: bool, seen: Option<Stream>, fault: Option<ErrorCode>)
+        requires sound { frame_error_in self.old frame.now ≡ None }
+        requires is_new { is_new ≡ hear.is_new_in self.old frame.now }
+        requires seen { seen ≡ hear.seen_in self.old frame.now }
+        requires fault { fault ≡ hear.fault_on self.old frame.now seen }
+        ensures { self.new ≡ hear.taken self.old frame.now }
+    {
+        let id = frame.body().stream;
+        let fate = self.fate(frame, fault, seen);
+        live::settle(&mut self.live, is_new, id, fate);
+        self.highest = highest_behind(self.highest, is_new, id);
+        self.is_started = true;
+        self.block = left_open(self.block, frame);
+        self.initial = initial_behind(self.initial, frame);
+        self.send = send_behind(self.send, frame);
+        self.receive = self.receive.saturating_sub(counted(frame));
+    }
+
+    fn hear(&mut self, frame: &Frame) -> Result<(), StreamFault>
+        ensures answer { result ≡ hear.answer_by (say.stream_of frame.now) (frame_error_in self.old frame.now) (hear.fault_in self.old frame.now) }
+        ensures set { self.new ≡ hear.taken_by (frame_error_in self.old frame.now) self.old frame.now }
+    {
+        if let Some(code) = self.frame_error(frame) {
+            return Err(StreamFault::Connection(code));
+        }
+        let is_new = self.is_new(frame);
+        let seen = self.seen(frame, is_new);
+        let fault = self.fault(frame, is_new, seen);
+        self.take(frame, is_new, seen, fault);
+        match fault {
+            Some(code) => Err(StreamFault::Stream(frame.body().stream, code)),
+            None => Ok(()),
+        }
+    }
+}
