@@ -1,6 +1,6 @@
 -- What one more step of an exchange, or one more frame of a side, changes.
 use Rattle.std.proofs.Common.{◌≡◌, ℕ, ◌<◌, ◌≤◌, max, Bool, ◌||◌, ◌&&◌, true, false, List, [], ◌∷◌, ◌++◌, Option, None, refl, sym, ap, ◌∙◌, arith, append_assoc}
-use Rattle.std.specs.Prelude.{option_to_list, nat_lt, ◌==◌, if◌then◌else◌, fold}
+use Rattle.std.specs.Prelude.{not, option_to_list, nat_lt, ◌==◌, if◌then◌else◌, fold}
 use Rattle.std.specs.List.{list_any, flat_map}
 use Rattle.std.proofs.lemmas.List.{append-nil}
 use Rattle.std.proofs.lemmas.List.Concat.{flat_map-append}
@@ -214,3 +214,50 @@ begun_has role x k = begun_has_from role [] x k
 
 pub begun_list_push : (role : Role) (x : List Step) (s : Step) → begun role (x ++ s ∷ []) ≡ begun role x ++ new_ids role x s
 begun_list_push role x s = collect_push (new_ids role) x s
+
+-- ---- an id is begun once
+
+-- an id stands in a list at most once
+abbrev pub is_once : ℕ → List ℕ → Bool
+is_once k [] = true
+is_once k (id ∷ ids) = if id == k then not (list_any (λ i. i == k) ids) else is_once k ids
+
+once_joined : (k : ℕ) (ids more : List ℕ) → is_once k ids ≡ true → is_once k more ≡ true → (list_any (λ i. i == k) ids ≡ true → list_any (λ i. i == k) more ≡ false) → is_once k (ids ++ more) ≡ true
+once_joined k [] more e f g = f
+once_joined k (id ∷ ids) more e f g = by (id == k) (list_any (λ i. i == k) ids) refl e g (λ a b. once_joined k ids more a f b)
+  where
+    by : (t any : Bool) → list_any (λ i. i == k) ids ≡ any → (if t then not any else is_once k ids) ≡ true → ((t || any) ≡ true → list_any (λ i. i == k) more ≡ false) → (is_once k ids ≡ true → (any ≡ true → list_any (λ i. i == k) more ≡ false) → is_once k (ids ++ more) ≡ true) →
+        (if t then not (list_any (λ i. i == k) (ids ++ more)) else is_once k (ids ++ more)) ≡ true
+    by true true q e g r = absurd cc
+    by true false q e g r = ap not (list_any-append (λ i. i == k) ids more ∙ ap (λ (b : Bool). b || list_any (λ i. i == k) more) q ∙ g refl)
+    by false any q e g r = r e g
+
+begun_high : (role : Role) (past x : List Step) (id : ℕ) → some_step (begins role id) past x ≡ true → highest (of_client role past) < id
+begun_high role past [] id e = absurd cc
+begun_high role past (s ∷ x) id e =
+    or_cases (highest (of_client role past) < id) (begins role id past s) (some_step (begins role id) (past ++ s ∷ []) x) (λ now. begins_high role past s id now)
+    (λ later. omega (arith, begun_high role (past ++ s ∷ []) x id later, ap highest (of_client_more role past (s ∷ [])), highest_more (of_client role past) (of_client role (s ∷ [])))) e
+
+one_once : (k : ℕ) (b : Bool) (n : ℕ) → is_once k ((if b then n ∷ [] else []) ++ []) ≡ true
+one_once k false n = refl
+one_once k true n = same (n == k)
+  where
+    same : (t : Bool) → (if t then not false else true) ≡ true
+    same true = refl
+    same false = refl
+
+new_once : (role : Role) (past : List Step) (s : Step) (k : ℕ) → is_once k (new_ids role past s) ≡ true
+new_once Server past (Received f) k = one_once k (is_new (received past) f) (stream_of f)
+new_once Server past (Sent f) k = refl
+new_once Client past (Received f) k = refl
+new_once Client past (Sent f) k = one_once k (is_new (sent past) f) (stream_of f)
+
+once_from : (role : Role) (past x : List Step) (k : ℕ) → is_once k (collect (new_ids role) past x) ≡ true
+once_from role past [] k = refl
+once_from role past (s ∷ x) k =
+    once_joined k (new_ids role past s) (collect (new_ids role) (past ++ s ∷ []) x) (new_once role past s k) (once_from role (past ++ s ∷ []) x k)
+    (λ e. begun_has_from role (past ++ s ∷ []) x k ∙ is_false (some_step (begins role k) (past ++ s ∷ []) x) (λ later. omega (arith, begun_high role (past ++ s ∷ []) x k later, begins_low role past s k (sym (new_has role past s k) ∙ e))))
+
+-- the ids that were begun all differ
+pub begun_once : (role : Role) (x : List Step) (k : ℕ) → is_once k (begun role x) ≡ true
+begun_once role x k = once_from role [] x k

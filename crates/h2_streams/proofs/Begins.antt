@@ -21,7 +21,7 @@ use Rattle.h2_exchange.specs.Windows.{initial_window, granted_on, spent_on, spen
 use Rattle.h2_exchange.proofs.Steps.{received_sent, sent_push, windows_add, blocks_add, begun_push, begun_within, begun_has, begun_list_push, highest_push}
 use Rattle.h2_streams.specs.declared.live.Stream.{Stream}
 use Rattle.h2_streams.specs.Set.{Set, begun as begun_set, new_stream, next_id}
-use Rattle.h2_streams.specs.Stands.{stream_by, stream_at, StandsFor, IsUntouched}
+use Rattle.h2_streams.specs.Stands.{stream_by, stream_at, StandsFor, IsUntouched, is_on}
 use Rattle.h2_streams.proofs.Lists.{added_is, self_eq, by_number}
 use Rattle.h2_streams.proofs.SentFrames.{same_made, or_false, plus_if_zero, reset_sent, live_by, isnt_on}
 
@@ -152,10 +152,10 @@ module _ (limits : H2Limits) (x : List Step) (b : FrameBody) (k : ℕ) (on : b.s
         ∙ added_is (is_live Client x) (is_live Client after) (stream_at limits x) (stream_at limits after) (λ id. refl) k (λ id f. (live_other id f, same_stream id)) (live_new u) (begun Client x) not_begun
         ∙ ap (λ (s : Stream). map (stream_at limits x) (live Client x) ++ s ∷ []) (same_stream k ∙ u.as_new)
 
-covers : (used granted : ℕ) → 2147483648 + granted - used ≡ 2147483648 → used < 2147483648 + granted
+pub covers : (used granted : ℕ) → 2147483648 + granted - used ≡ 2147483648 → used < 2147483648 + granted
 covers used granted e = omega arith
 
-bounds : (window used granted : ℕ) → 65536 ≤ window → window + granted - used ≡ window → used ≤ window + granted
+pub bounds : (window used granted : ℕ) → 65536 ≤ window → window + granted - used ≡ window → used ≤ window + granted
 bounds window used granted w e = omega arith
 
 pub begins_stream : (s : Set) (x : List Step) (k : ℕ) (b : FrameBody) → StandsFor s x → s.role ≡ Client → k ≡ next_id s.highest → b.stream ≡ k → has_end_stream (Headers b) ≡ false → StandsFor (begun_set k s) (x ++ Sent (Headers b) ∷ [])
@@ -176,6 +176,7 @@ begins_stream s x k b h client next on no-end =
       untouched = λ id lt e. record {
         as_new = same_stream s.limits x b k on no-end id ∙ (h.untouched id (omega (arith, lt, low)) e).as_new;
         no_reset = no_reset s.limits x b k on no-end id ∙ (h.untouched id (omega (arith, lt, low)) e).no_reset;
+        no_block = ap (λ (fs : List Frame). is_on id (open_block fs)) rs ∙ (h.untouched id (omega (arith, lt, low)) e).no_block;
       };
     }
   where

@@ -17,7 +17,7 @@ use Rattle.h2_exchange.proofs.Steps.{received_sent, sent_push, windows_add, begu
 use Rattle.h2_streams.specs.declared.live.Stream.{Stream}
 use Rattle.h2_streams.specs.Live.{replaced}
 use Rattle.h2_streams.specs.Set.{Set, at, credited, credited_at, credited_on}
-use Rattle.h2_streams.specs.Stands.{stream_at, StandsFor}
+use Rattle.h2_streams.specs.Stands.{stream_at, StandsFor, is_on}
 use Rattle.h2_streams.proofs.Lists.{replaced_is, untouched_is, eqb_is, self_eq, by_number}
 use Rattle.h2_streams.proofs.SentFrames.{made, or_false, plus_if_zero, nothing_new, begun_same, highest_same, stream_sent, reset_sent, live_by, isnt_on}
 use Rattle.h2_streams.proofs.Sends.{if_test, when_test, front_true}
@@ -128,6 +128,7 @@ credits_stream s x k n b h alive on inc =
       untouched = λ id lt e. record {
         as_new = other_same s.role s.limits x b k on id (λ f. omega (arith, lt, low, h.highest_is, f)) ∙ (h.untouched id lt e).as_new;
         no_reset = no_reset s.role s.limits x b k on id ∙ (h.untouched id lt e).no_reset;
+        no_block = ap (λ (fs : List Frame). is_on id (open_block fs)) rs ∙ (h.untouched id lt e).no_block;
       };
     }
     )
@@ -171,6 +172,7 @@ credits_all s x n b h on inc =
       untouched = λ id lt e. record {
         as_new = other_same s.role s.limits x b 0 on id (odd_not_zero id e) ∙ (h.untouched id lt e).as_new;
         no_reset = no_reset s.role s.limits x b 0 on id ∙ (h.untouched id lt e).no_reset;
+        no_block = ap (λ (fs : List Frame). is_on id (open_block fs)) rs ∙ (h.untouched id lt e).no_block;
       };
     }
   where

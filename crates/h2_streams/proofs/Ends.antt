@@ -13,7 +13,7 @@ use Rattle.h2_exchange.proofs.Steps.{received_sent, sent_push, windows_add, begu
 use Rattle.h2_streams.specs.declared.live.Stream.{Stream}
 use Rattle.h2_streams.specs.Live.{is_stream, replaced, without}
 use Rattle.h2_streams.specs.Set.{Set, at, dropped, ended_here, finished, spent, room_of}
-use Rattle.h2_streams.specs.Stands.{stream_at, StandsFor}
+use Rattle.h2_streams.specs.Stands.{stream_at, StandsFor, is_on}
 use Rattle.h2_streams.proofs.Lists.{replaced_is, without_is, self_eq, by_number}
 use Rattle.h2_streams.proofs.SentFrames.{or_false, nothing_new, highest_same, reset_sent, isnt_on}
 use Rattle.h2_streams.proofs.Sends.{if_test, when_test, front_true, back_true, room_when, spent_live, found_live, other_same, this_changed, live_other, live_this}
@@ -140,6 +140,7 @@ ends_with_data s x k b h open-here on fits end = by (is_ended_by (received x) k)
       untouched = λ id lt e. record {
         as_new = other_same s.role s.limits x b k on id (λ f. omega (arith, lt, low, h.highest_is, f)) ∙ (h.untouched id lt e).as_new;
         no_reset = reset_sent x (Content b) id ∙ or_false (is_reset x id) false refl ∙ (h.untouched id lt e).no_reset;
+        no_block = ap (λ (fs : List Frame). is_on id (open_block fs)) rs ∙ (h.untouched id lt e).no_block;
       };
     }
 

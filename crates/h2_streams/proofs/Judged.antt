@@ -66,7 +66,7 @@ twice : (t : Bool) → not (not t) ≡ t
 twice true = refl
 twice false = refl
 
-streams_of : (o : Option Block) → option_map (λ (p : ℕ × Bool). p.0) (option_map (λ (b : Block). (b.stream, b.last)) o) ≡ option_map (λ (b : Block). b.stream) o
+pub streams_of : (o : Option Block) → option_map (λ (p : ℕ × Bool). p.0) (option_map (λ (b : Block). (b.stream, b.last)) o) ≡ option_map (λ (b : Block). b.stream) o
 streams_of None = refl
 streams_of (Some b) = refl
 
@@ -143,7 +143,7 @@ exceeds_one window used granted c le = grind (arith, nat_tests)
 five_rules : Bool → Bool → Bool → Bool → Bool → Option ErrorCode
 five_rules a b c d e = first_broken ((a, code.FRAME_SIZE_ERROR) ∷ (b, code.PROTOCOL_ERROR) ∷ (c, code.FLOW_CONTROL_ERROR) ∷ (d, code.FLOW_CONTROL_ERROR) ∷ (e, code.STREAM_CLOSED) ∷ [])
 
-live_says : (s : Set) (x : List Step) (f : Frame) → StandsFor s x → is_live s.role x (stream_of f) ≡ true → live_error_in s f (stream_at s.limits x (stream_of f)) ≡ live_error s.limits x f
+pub live_says : (s : Set) (x : List Step) (f : Frame) → StandsFor s x → is_live s.role x (stream_of f) ≡ true → live_error_in s f (stream_at s.limits x (stream_of f)) ≡ live_error s.limits x f
 unfolding five_rules
 live_says s x f h alive =
     ap (λ (c : Bool). five_rules (is_priority f && not (payload_length f == 5)) (is_window_update f && increment_of f == 0) (is_window_update f && c) (is_data f && nat_lt (stream_at s.limits x (stream_of f)).receive (counted f)) (is_data f && (stream_at s.limits x (stream_of f)).is_ended_there))

@@ -13,3 +13,5 @@ pub mod Sound
 pub mod Places
 pub mod Kept
 pub mod ReceivedFrames
+pub mod Counts
+pub mod Agrees

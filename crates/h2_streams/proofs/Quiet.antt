@@ -16,7 +16,7 @@ use Rattle.h2_exchange.proofs.Steps.{received_sent, sent_push, windows_add, begu
 use Rattle.h2_streams.specs.declared.live.Stream.{Stream}
 use Rattle.h2_streams.specs.Laws.{ControlsAreQuiet, HeadsAreQuiet}
 use Rattle.h2_streams.specs.Set.{Set}
-use Rattle.h2_streams.specs.Stands.{stream_at, StandsFor}
+use Rattle.h2_streams.specs.Stands.{stream_at, StandsFor, is_on}
 use Rattle.h2_streams.proofs.Begins.{same_stream, no_reset}
 use Rattle.h2_streams.proofs.SentFrames.{or_false, plus_if_zero, nothing_new, begun_same, highest_same, stream_sent, reset_sent, live_by}
 
@@ -55,7 +55,7 @@ module _ (s : Set) (x : List Step) (f : Frame) (stands : StandsFor s x) where
         initial_small = stands.initial_small;
         covered = λ id e. omega (arith, stands.covered id (sym (live_same id) ∙ e), ap (spent_on id) ss, windows_add.spent_on_push id (sent x) f, no_data id, ap (granted_on id) rs);
         within = λ id e. omega (arith, stands.within id (sym (live_same id) ∙ e), ap (spent_on id) rs, ap (granted_on id) ss, windows_add.granted_push id (sent x) f);
-        untouched = λ id lt e. record { as_new = t.streams id ∙ (stands.untouched id lt e).as_new; no_reset = t.resets id ∙ (stands.untouched id lt e).no_reset };
+        untouched = λ id lt e. record { as_new = t.streams id ∙ (stands.untouched id lt e).as_new; no_reset = t.resets id ∙ (stands.untouched id lt e).no_reset; no_block = ap (λ (fs : List Frame). is_on id (open_block fs)) rs ∙ (stands.untouched id lt e).no_block };
       }
     where
       rs : received after ≡ received x

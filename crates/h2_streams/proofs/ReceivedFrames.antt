@@ -71,7 +71,7 @@ whole_is_on o f on b e = on b (when_some (has_end_headers f) (block_with o f) b 
 
 -- ---- what a frame ends
 
-pub last_of : Option Block → Bool
+abbrev pub last_of : Option Block → Bool
 last_of None = false
 last_of (Some b) = b.last
 
@@ -92,7 +92,6 @@ regroup false false true false l t = refl
 regroup false false false e l t = refl
 
 last_on : (o : Option Block) (k id : ℕ) → ((b : Block) → o ≡ Some b → b.stream ≡ k) → list_any (is_last_on id) (option_to_list o) ≡ (last_of o && k == id)
-unfolding last_of
 last_on None k id on = refl
 last_on (Some b) k id on = or_nothing (b.last && b.stream == id) ∙ ap (λ (n : ℕ). b.last && n == id) (on b refl)
 

@@ -13,15 +13,15 @@ use Rattle.h2_exchange.specs.Windows.{initial_window, granted_on, spent_on, spen
 use Rattle.h2_exchange.proofs.Steps.{received_sent, sent_push, windows_add, begun_within}
 use Rattle.h2_streams.specs.Live.{without}
 use Rattle.h2_streams.specs.Set.{Set, dropped}
-use Rattle.h2_streams.specs.Stands.{stream_at, StandsFor}
+use Rattle.h2_streams.specs.Stands.{stream_at, StandsFor, is_on}
 use Rattle.h2_streams.proofs.Lists.{without_is, self_eq, by_number}
 use Rattle.h2_streams.proofs.SentFrames.{reset_is_no_block, or_false, plus_if_zero, nothing_new, begun_same, highest_same, stream_sent, reset_sent, live_by, dead_by_reset, isnt_on}
 
 module _ (role : Role) (limits : H2Limits) (x : List Step) (b : FrameBody) where
-  abbrev after : List Step
+  abbrev pub after : List Step
   after = x ++ Sent (RstStream b) ∷ []
 
-  same_stream : (id : ℕ) → stream_at limits after id ≡ stream_at limits x id
+  pub same_stream : (id : ℕ) → stream_at limits after id ≡ stream_at limits x id
   same_stream id =
       stream_sent limits x (RstStream b) id (is_ended_by (sent x) id) (spent_on id (sent x)) (granted_on id (sent x)) (reset_is_no_block (open_block (sent x)) b)
       (or_false (is_ended_by (sent x) id) false refl) (plus_if_zero (spent_on id (sent x)) (b.stream == id)) (omega arith)
@@ -32,12 +32,12 @@ module _ (role : Role) (limits : H2Limits) (x : List Step) (b : FrameBody) where
   there_same : (id : ℕ) → is_ended_by (received after) id ≡ is_ended_by (received x) id
   there_same id = ap (λ (s : Rattle.h2_streams.specs.declared.live.Stream.Stream). s.is_ended_there) (same_stream id)
 
-  live_same : (k id : ℕ) → b.stream ≡ k → (id ≡ k → ⊥) → is_live role after id ≡ is_live role x id
+  pub live_same : (k id : ℕ) → b.stream ≡ k → (id ≡ k → ⊥) → is_live role after id ≡ is_live role x id
   live_same k id e f =
       live_by role x after id (is_begun role x id) (is_reset x id) (is_ended_by (received x) id) (is_ended_by (sent x) id) (begun_same role x (RstStream b) id refl)
       (reset_sent x (RstStream b) id ∙ or_false (is_reset x id) (b.stream == id) (isnt_on k b.stream id e f)) (there_same id) (here_same id)
 
-  now_dead : (k : ℕ) → b.stream ≡ k → is_live role after k ≡ false
+  pub now_dead : (k : ℕ) → b.stream ≡ k → is_live role after k ≡ false
   now_dead k e =
       live_by role x after k (is_begun role x k) (is_reset x k || true) (is_ended_by (received x) k) (is_ended_by (sent x) k) (begun_same role x (RstStream b) k refl)
       (reset_sent x (RstStream b) k ∙ ap (λ (t : Bool). is_reset x k || t) (ap (λ (n : ℕ). n == k) e ∙ self_eq k)) (there_same k) (here_same k)
@@ -80,6 +80,7 @@ resets s x k b h alive on =
       untouched = λ id lt e. record {
         as_new = same_stream s.role s.limits x b id ∙ (h.untouched id lt e).as_new;
         no_reset = reset_sent x (RstStream b) id ∙ or_false (is_reset x id) (b.stream == id) (isnt_on k b.stream id on (λ f. omega (arith, lt, low, h.highest_is, f))) ∙ (h.untouched id lt e).no_reset;
+        no_block = ap (λ (fs : List Frame). is_on id (open_block fs)) rs ∙ (h.untouched id lt e).no_block;
       };
     }
   where

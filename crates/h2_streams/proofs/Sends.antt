@@ -15,7 +15,7 @@ use Rattle.h2_exchange.proofs.Steps.{received_sent, sent_push, windows_add, begu
 use Rattle.h2_streams.specs.declared.live.Stream.{Stream}
 use Rattle.h2_streams.specs.Live.{replaced}
 use Rattle.h2_streams.specs.Set.{Set, at, spent_at, spent, room_of}
-use Rattle.h2_streams.specs.Stands.{stream_at, StandsFor}
+use Rattle.h2_streams.specs.Stands.{stream_at, StandsFor, is_on}
 use Rattle.h2_streams.proofs.Lists.{replaced_is, self_eq, by_number}
 use Rattle.h2_streams.proofs.SentFrames.{made, data_is_no_block, or_false, nothing_new, begun_same, highest_same, stream_sent, reset_sent, live_by, isnt_on}
 use Rattle.h2_streams.proofs.Standing.{at_is}
@@ -136,6 +136,7 @@ sends s x k n b h open-here on long no-end fits =
       untouched = λ id lt e. record {
         as_new = other_same s.role s.limits x b k on id (λ f. omega (arith, lt, low, h.highest_is, f)) ∙ (h.untouched id lt e).as_new;
         no_reset = reset_sent x (Content b) id ∙ or_false (is_reset x id) false refl ∙ (h.untouched id lt e).no_reset;
+        no_block = ap (λ (fs : List Frame). is_on id (open_block fs)) rs ∙ (h.untouched id lt e).no_block;
       };
     }
     )

@@ -1,8 +1,8 @@
 -- How a set of streams stands for an exchange.
-use Rattle.std.specs.Prelude.{◌≡◌, ℕ, ◌+◌, ◌-◌, ◌<◌, ◌≤◌, ◌^◌, true, false, not, map, List, option_map, length, ◌==◌}
+use Rattle.std.specs.Prelude.{◌≡◌, ℕ, ◌+◌, ◌-◌, ◌<◌, ◌≤◌, ◌^◌, true, false, not, map, Bool, List, Option, Some, None, option_map, length, ◌==◌}
 use Rattle.h2_frames.specs.declared.frame.Frame.{Frame}
 use Rattle.h2_exchange.specs.declared.limits.H2Limits.{H2Limits}
-use Rattle.h2_exchange.specs.Blocks.{open_block}
+use Rattle.h2_exchange.specs.Blocks.{Block, open_block}
 use Rattle.h2_exchange.specs.Exchange.{Step, received, sent}
 use Rattle.h2_exchange.specs.Streams.{of_client, highest, is_odd, is_live, is_reset, is_ended_by, has_head, live}
 use Rattle.h2_exchange.specs.Windows.{initial_window, granted_on, spent_on, spent}
@@ -23,10 +23,16 @@ stream_by limits received sent id = record {
 abbrev pub stream_at : H2Limits → List Step → ℕ → Stream
 stream_at limits x id = stream_by limits (received x) (sent x) id
 
+-- the open header block stands on the stream
+abbrev pub is_on : ℕ → Option Block → Bool
+is_on id None = false
+is_on id (Some b) = b.stream == id
+
 -- no frame stood on the stream
 pub record IsUntouched (limits : H2Limits) (x : List Step) (id : ℕ) : Type 0 where
   pub as_new : stream_at limits x id ≡ new_stream limits id
   pub no_reset : is_reset x id ≡ false
+  pub no_block : is_on id (open_block (received x)) ≡ false
 
 -- Each part of the set is what the exchange says. Besides, on a live stream no more was sent than was granted with the
 -- largest initial window and no more was received than
