@@ -88,7 +88,7 @@ begun_odd : (role : Role) (past x : List Step) (id : ℕ) → some_step (begins 
 begun_odd role past [] id e = absurd cc
 begun_odd role past (s ∷ x) id e = or_either (is_odd id ≡ true) (begins role id past s) (some_step (begins role id) (past ++ s ∷ []) x) (begins_odd role past s id) (begun_odd role (past ++ s ∷ []) x id) e
 
-odd_not_zero : (id : ℕ) → is_odd id ≡ true → id ≡ 0 → ⊥
+pub odd_not_zero : (id : ℕ) → is_odd id ≡ true → id ≡ 0 → ⊥
 odd_not_zero id o e = zero_clash (sym (ap is_odd e) ∙ o)
   where
     zero_clash : is_odd 0 ≡ true → ⊥

@@ -15,3 +15,6 @@ pub mod Kept
 pub mod ReceivedFrames
 pub mod Counts
 pub mod Agrees
+pub mod Idle
+pub mod Settled
+pub mod Hears

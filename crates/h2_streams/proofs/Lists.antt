@@ -4,7 +4,7 @@ use Rattle.std.specs.Prelude.{filter, find, ◌==◌, if◌then◌else◌}
 use Rattle.std.specs.List.{list_any}
 use Rattle.std.proofs.lemmas.Bool.Decides.{nat_tests}
 use Rattle.std.proofs.lemmas.List.Elements.{filter-append}
-use Rattle.std.proofs.lemmas.List.{map-append}
+use Rattle.std.proofs.lemmas.List.{append-nil, map-append}
 use Rattle.h2_streams.specs.declared.live.Stream.{Stream}
 use Rattle.h2_streams.specs.Live.{is_stream, replaced, without}
 
@@ -119,6 +119,25 @@ module _ (p q : ℕ → Bool) (g h : ℕ → Stream) (names_g : (id : ℕ) → (
       ap (map h) (filter-append q ids (k ∷ [])) ∙ map-append h (filter q ids) (filter q (k ∷ []))
       ∙ ap (λ (l : List Stream). l ++ map h (filter q (k ∷ []))) (untouched_is k same ids none)
       ∙ ap (λ (b : Bool). map g (filter p ids) ++ map h (if b then k ∷ [] else [])) alive
+
+  -- one that is not added
+  pub gone_is : (k : ℕ) → SameBut k → q k ≡ false → (ids : List ℕ) → list_any (λ id. id == k) ids ≡ false → map h (filter q (ids ++ k ∷ [])) ≡ map g (filter p ids)
+  gone_is k same dead ids none =
+      ap (map h) (filter-append q ids (k ∷ [])) ∙ ap (λ (b : Bool). map h (filter q ids ++ (if b then k ∷ [] else []))) dead ∙ ap (map h) (append-nil (filter q ids))
+      ∙ untouched_is k same ids none
+
+  out : (b c : Bool) (s t : Stream) (xs ys : List Stream) → b ≡ false → c ≡ false → xs ≡ ys → (if b then s ∷ xs else xs) ≡ (if c then t ∷ ys else ys)
+  out b c s t xs ys e f g = cc
+
+  -- one that stays out
+  pub dead_is : (k : ℕ) → SameBut k → q k ≡ false → p k ≡ false → (ids : List ℕ) → map h (filter q ids) ≡ map g (filter p ids)
+  dead_is k same dead was_dead [] = refl
+  dead_is k same dead was_dead (id ∷ ids) =
+      map_kept (q id) h id (filter q ids)
+      ∙ by_number (λ id. (if q id then h id ∷ map h (filter q ids) else map h (filter q ids)) ≡ (if p id then g id ∷ map g (filter p ids) else map g (filter p ids))) k id
+      (λ e. out (q id) (p id) (h id) (g id) (map h (filter q ids)) (map g (filter p ids)) (ap q e ∙ dead) (ap p e ∙ was_dead) (dead_is k same dead was_dead ids))
+      (λ f. cell (q id) (p id) (h id) (g id) (map h (filter q ids)) (map g (filter p ids)) (same id f).0 (same id f).1 (dead_is k same dead was_dead ids))
+      ∙ sym (map_kept (p id) g id (filter p ids))
 
 -- ---- one stream found
 
