@@ -18,3 +18,4 @@ pub mod Agrees
 pub mod Idle
 pub mod Settled
 pub mod Hears
+pub mod Taken

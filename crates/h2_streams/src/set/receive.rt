@@ -1,9 +1,17 @@
 //! What a received frame does to the streams.
-ghost use Rattle.std.specs.Prelude.{◌≡◌, ◌+◌, ◌<◌, ◌^◌, ◌==◌, true, None, option_map, if◌then◌else◌};
+ghost use Rattle.std.specs.Prelude.{◌≡◌, ℕ, ◌+◌, ◌<◌, ◌^◌, ◌==◌, true, false, List, [], ◌∷◌, ◌++◌, None, option_map, Err, IfOk, if◌then◌else◌};
+ghost use Rattle.h2_frames.specs.declared.code.ErrorCode.{ErrorCode};
+ghost use Rattle.h2_frames.specs.declared.frame.Frame.TheVariants.{RstStream};
+ghost use Rattle.h2_frames.specs.declared.frame.FrameBody.{FrameBody};
+ghost use Rattle.h2_exchange.specs.declared.fault.StreamFault.TheVariants.{Stream as OnStream, Connection};
+ghost use Rattle.h2_exchange.specs.Exchange.{Step, Received, Sent};
 ghost use Rattle.h2_exchange.specs.Frames as say;
+ghost use Rattle.h2_exchange.specs.Rules.{frame_error};
+ghost use Rattle.h2_exchange.specs.StreamErrors.{stream_error_of};
 ghost use Rattle.h2_exchange.specs.Windows.{setting, settings_in};
 ghost use Rattle.h2_streams.specs.Judging.{frame_error_in};
 ghost use Rattle.h2_streams.specs.Receiving as hear;
+ghost use Rattle.h2_streams.specs.Stands.{StandsFor};
 
 use super::{OpenBlock, StreamSet};
 use crate::live::{self, Fate, Stream};
@@ -104,6 +112,29 @@ fn highest_behind(highest: u32, is_new: bool, id: u32) -> u32
 }
 
 impl StreamSet {
+    /// Takes a frame that was received. It takes no memory.
+    ///
+    /// The fields of a header block are the caller's to judge: where a block is malformed, and nothing that comes before
+    /// that in the order of the rules was answered, the caller resets its stream.
+    ///
+    /// # Errors
+    ///
+    /// `Connection` where the frame breaks a rule of the connection: the set is as before. `Stream` where it breaks one
+    /// of its stream, which the caller resets: the frame is taken, and its stream is live no more.
+    pub fn on_frame(&mut self, frame: &Frame) -> Result<(), StreamFault>
+        ensures exact { result ≡ hear.answer_by (say.stream_of frame.now) (frame_error_in self.old frame.now) (hear.fault_in self.old frame.now) }
+        ensures set { self.new ≡ hear.taken_by (frame_error_in self.old frame.now) self.old frame.now }
+        ensures kept { (self.new.role ≡ self.old.role) × (self.new.limits ≡ self.old.limits) }
+        ensures answer { (x : List Step) → StandsFor self.old x →
+            result ≡ hear.answer_by (say.stream_of frame.now) (frame_error self.old.role x frame.now) (stream_error_of self.old.role self.old.limits x frame.now false) }
+        ensures taken { IfOk result (λ _. (x : List Step) → StandsFor self.old x → StandsFor self.new (x ++ Received frame.now ∷ [])) }
+        ensures failed { (id : ℕ) (why : ErrorCode) → result ≡ Err (OnStream id why) → (x : List Step) (b : FrameBody) → StandsFor self.old x →
+            b.stream ≡ id → StandsFor self.new (x ++ Received frame.now ∷ Sent (RstStream b) ∷ []) }
+        ensures refused { (why : ErrorCode) → result ≡ Err (Connection why) → self.new ≡ self.old }
+    {
+        self.hear(frame)
+    }
+
     fn is_new(&self, frame: &Frame) -> bool
         ensures { result ≡ hear.is_new_in self.now frame.now }
     {
