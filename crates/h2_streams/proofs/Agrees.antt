@@ -1,7 +1,6 @@
 -- What a set says of a received frame and its stream is what its exchange says.
-use Rattle.std.proofs.Common.{◌≡◌, ℕ, suc, ◌+◌, ◌-◌, ◌<◌, ◌≤◌, Bool, true, false, not, ◌&&◌, ◌||◌, List, [], ◌∷◌, ◌++◌, length, map, Option, Some, None, refl, sym, ap, ◌∙◌, arith, subst}
-use Rattle.std.specs.Prelude.{filter, find, option_map, is_some, nat_lt, ◌==◌, if◌then◌else◌}
-use Rattle.std.specs.List.{list_any}
+use Rattle.std.proofs.Common.{◌≡◌, ℕ, suc, ◌-◌, ◌<◌, Bool, true, false, not, ◌&&◌, ◌||◌, List, [], ◌∷◌, length, Option, Some, None, refl, sym, ap, ◌∙◌, arith}
+use Rattle.std.specs.Prelude.{option_map, is_some, nat_lt, ◌==◌, if◌then◌else◌}
 use Rattle.std.specs.Option.{option_or}
 use Rattle.std.proofs.lemmas.Bool.Decides.{nat_tests}
 use Rattle.std.proofs.lemmas.List.{length-map}
@@ -12,7 +11,7 @@ use Rattle.h2_frames.specs.declared.frame.Frame.TheVariants.{Content, Headers, P
 use Rattle.h2_exchange.specs.declared.role.Role.{Role}
 use Rattle.h2_exchange.specs.declared.role.Role.TheVariants.{Client, Server}
 use Rattle.h2_exchange.specs.Blocks.{Block, block_with, left_open, open_block, completed}
-use Rattle.h2_exchange.specs.Exchange.{Step, Received, received, sent, first_broken}
+use Rattle.h2_exchange.specs.Exchange.{Step, Received, received, first_broken}
 use Rattle.h2_exchange.specs.Frames.{stream_of, is_headers, is_data, has_end_stream, has_end_headers}
 use Rattle.h2_exchange.specs.Rules.{is_client, breaks_block_on}
 use Rattle.h2_exchange.specs.Streams.{of_client, highest, is_odd, is_new, begins, begun, is_begun, is_over, is_live, is_live_at, is_ended_by, has_head, live, others_live}
@@ -223,7 +222,6 @@ module _ (s : Set) (x : List Step) (f : Frame) (h : StandsFor s x) (sound : IsSo
 
   full_agrees : (was_live || starts) ≡ true → hear.is_full_in s f ≡ is_full s.role s.limits x k
   full_agrees e = ap (λ (n : ℕ). not (is_client s.role) && not (nat_lt n s.limits.streams)) (others_agree e)
-
 
   block_agrees : (was_live || starts) ≡ true → (c : Option Block) → ((b : Block) → c ≡ Some b → b.stream ≡ k) → hear.block_error_in s f seen (option_map pair c) ≡ completed_error s.role s.limits x f false c
   block_agrees e None on = refl

@@ -1,9 +1,9 @@
 -- How many streams are live beside one.
-use Rattle.std.proofs.Common.{◌≡◌, ℕ, suc, Bool, true, false, not, ◌&&◌, ◌||◌, List, [], ◌∷◌, length, refl, sym, ap, ◌∙◌}
+use Rattle.std.proofs.Common.{◌≡◌, ℕ, suc, Bool, true, false, not, ◌||◌, List, [], ◌∷◌, length, refl, sym, ap, ◌∙◌}
 use Rattle.std.specs.Prelude.{filter, ◌==◌, if◌then◌else◌}
 use Rattle.std.specs.List.{list_any}
 use Rattle.h2_exchange.proofs.Steps.{is_once}
-use Rattle.h2_streams.proofs.Lists.{eqb_is, self_eq}
+use Rattle.h2_streams.proofs.Lists.{eqb_is}
 
 clash : (t : Bool) → t ≡ true → t ≡ false → ⊥
 clash t e f = cc

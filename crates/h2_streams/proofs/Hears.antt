@@ -1,6 +1,6 @@
 -- A set stands for its exchange behind a received frame.
-use Rattle.std.proofs.Common.{◌≡◌, ℕ, suc, ◌+◌, ◌-◌, ◌^◌, ◌<◌, ◌≤◌, Bool, true, false, not, ◌&&◌, ◌||◌, List, [], ◌∷◌, ◌++◌, length, map, Option, Some, None, refl, sym, ap, ◌∙◌, arith, subst}
-use Rattle.std.specs.Prelude.{option_map, is_some, nat_lt, fold, ◌==◌, if◌then◌else◌}
+use Rattle.std.proofs.Common.{◌≡◌, ℕ, suc, ◌+◌, ◌-◌, ◌<◌, ◌≤◌, Bool, true, false, not, ◌&&◌, ◌||◌, List, [], ◌∷◌, ◌++◌, length, map, Option, Some, None, refl, sym, ap, ◌∙◌, arith, subst}
+use Rattle.std.specs.Prelude.{option_map, is_some, nat_lt, ◌==◌, if◌then◌else◌}
 use Rattle.std.specs.List.{flat_map}
 use Rattle.std.specs.Option.{option_or}
 use Rattle.std.proofs.lemmas.Bool.Decides.{nat_tests}
@@ -20,20 +20,19 @@ use Rattle.h2_exchange.specs.Rules.{is_client, setting_error, settings_error, va
 use Rattle.h2_exchange.specs.Streams.{of_client, highest, is_odd, begun, is_begun, is_over, is_live, is_reset, is_ended_by, has_head, live}
 use Rattle.h2_exchange.specs.Windows.{settings_of, settings_in, setting, initial_window, granted_on, spent_on, spent}
 use Rattle.h2_exchange.proofs.Steps.{received_push, received_sent, sent_received, sent_push, windows_add, blocks_add, begun_within}
-use Rattle.h2_streams.specs.declared.live.Fate.{Fate}
-use Rattle.h2_streams.specs.declared.live.Fate.TheVariants.{Unseen, Over, Alive}
+use Rattle.h2_streams.specs.declared.live.Fate.TheVariants.{Over, Alive}
 use Rattle.h2_streams.specs.declared.live.Stream.{Stream}
 use Rattle.h2_streams.specs.Judging.{live_error_in}
 use Rattle.h2_streams.specs.Live.{settled}
 use Rattle.h2_streams.specs.Receiving as hear
 use Rattle.h2_streams.specs.Set.{Set}
 use Rattle.h2_streams.specs.Stands.{stream_at, StandsFor, IsUntouched, is_on}
-use Rattle.h2_streams.proofs.Agrees.{pair, part_on, whole_on, open_agrees, ends_agree, whole_agrees, new_agrees, facts, above, was_not_live, untouched, seen_agrees}
+use Rattle.h2_streams.proofs.Agrees.{pair, part_on, whole_on, open_agrees, ends_agree, whole_agrees, new_agrees, above, untouched, seen_agrees}
 use Rattle.h2_streams.proofs.Begins.{covers, bounds}
 use Rattle.h2_streams.proofs.Idle.{IsQuiet, is_quiet}
 use Rattle.h2_streams.proofs.Judged.{streams_of}
 use Rattle.h2_streams.proofs.Lists.{by_number, isnt, self_eq}
-use Rattle.h2_streams.proofs.ReceivedFrames.{last_of, ends_by, begins_now, heard_as, same_heard, other_same, this_heard, reset_heard, begun_list, highest_heard, live_other, live_this}
+use Rattle.h2_streams.proofs.ReceivedFrames.{last_of, ends_by, begins_now, same_heard, other_same, this_heard, reset_heard, begun_list, highest_heard, live_other, live_this}
 use Rattle.h2_streams.proofs.Resets as resets
 use Rattle.h2_streams.proofs.Settled.{over_list, alive_list, unseen_list}
 use Rattle.h2_streams.proofs.SentFrames.{or_false, nothing_new, highest_same, reset_sent, isnt_on}
@@ -384,9 +383,9 @@ module _ (s : Set) (x : List Step) (f : Frame) (h : StandsFor s x) (sound : IsSo
   count_fits : hear.fault_in s f ≡ None → (lives || starts) ≡ true → spent_on k (received x) + counted f ≤ s.limits.window + granted_on k (sent x)
   count_fits sane e =
       omega (
-      arith,
-      within_here e,
-      fits_stream s f seen (front_none (live_error_in s f seen) (hear.block_error_in s f seen (hear.completed_by s.block f)) (ap (hear.fault_on s f) (sym (seen_agrees s x f h sound ∙ ap (λ (c : Bool). if c then Some seen else None) e)) ∙ sane)).0,
+        arith,
+        within_here e,
+        fits_stream s f seen (front_none (live_error_in s f seen) (hear.block_error_in s f seen (hear.completed_by s.block f)) (ap (hear.fault_on s f) (sym (seen_agrees s x f h sound ∙ ap (λ (c : Bool). if c then Some seen else None) e)) ∙ sane)).0,
       )
 
   unless_dead : is_live s.role after k ≡ true → (lives || starts) ≡ true
@@ -407,10 +406,10 @@ module _ (s : Set) (x : List Step) (f : Frame) (h : StandsFor s x) (sound : IsSo
         greatest = refl;
         live_is = list_after sane;
         covered = λ id e. by_number (λ id. is_live s.role after id ≡ true → spent_on id (sent x) < 2147483648 + granted_on id (received x)) k id
-          (λ g e. subst (λ (i : ℕ). spent_on i (sent x) < 2147483648 + granted_on i (received x)) (sym g) (covered_here (unless_dead (ap (is_live s.role after) (sym g) ∙ e)))) (λ g e. h.covered id (live_was id g e)) e;
+            (λ g e. subst (λ (i : ℕ). spent_on i (sent x) < 2147483648 + granted_on i (received x)) (sym g) (covered_here (unless_dead (ap (is_live s.role after) (sym g) ∙ e)))) (λ g e. h.covered id (live_was id g e)) e;
         within = λ id e. by_number (λ id. is_live s.role after id ≡ true → spent_on id (received x) + (if k == id then counted f else 0) ≤ s.limits.window + granted_on id (sent x)) k id
-          (λ g e. subst (λ (i : ℕ). spent_on i (received x) + (if k == i then counted f else 0) ≤ s.limits.window + granted_on i (sent x)) (sym g) (omega (arith, count_fits sane (unless_dead (ap (is_live s.role after) (sym g) ∙ e)), ap (λ (b : Bool). if b then counted f else 0) (self_eq k))))
-          (λ g e. omega (arith, h.within id (live_was id g e), ap (λ (b : Bool). if b then counted f else 0) (isnt id k (λ i. g (sym i))))) e;
+            (λ g e. subst (λ (i : ℕ). spent_on i (received x) + (if k == i then counted f else 0) ≤ s.limits.window + granted_on i (sent x)) (sym g) (omega (arith, count_fits sane (unless_dead (ap (is_live s.role after) (sym g) ∙ e)), ap (λ (b : Bool). if b then counted f else 0) (self_eq k))))
+            (λ g e. omega (arith, h.within id (live_was id g e), ap (λ (b : Bool). if b then counted f else 0) (isnt id k (λ i. g (sym i))))) e;
         untouched = untouched_after;
       }
       )
@@ -480,10 +479,10 @@ module _ (s : Set) (x : List Step) (f : Frame) (h : StandsFor s x) (sound : IsSo
                   fate_is (Some why) true fault e
                   ∙ over_list s x f h sound ended (nothing_new s.role after (RstStream b) refl ∙ begun_list s.role s.limits x f (whole_on s x f h sound)) others_now dead_now;
               covered = λ id g. by_number (λ id. is_live s.role ended id ≡ true → spent_on id (sent x) < 2147483648 + granted_on id (received x)) k id
-                (λ i g. absurd (clash (is_live s.role ended id) g (ap (is_live s.role ended) i ∙ dead_now))) (λ i g. h.covered id (sym (others_now id i).0 ∙ g)) g;
+                  (λ i g. absurd (clash (is_live s.role ended id) g (ap (is_live s.role ended) i ∙ dead_now))) (λ i g. h.covered id (sym (others_now id i).0 ∙ g)) g;
               within = λ id g. by_number (λ id. is_live s.role ended id ≡ true → spent_on id (received x) + (if k == id then counted f else 0) ≤ s.limits.window + granted_on id (sent x)) k id
-                (λ i g. absurd (clash (is_live s.role ended id) g (ap (is_live s.role ended) i ∙ dead_now)))
-                (λ i g. omega (arith, h.within id (sym (others_now id i).0 ∙ g), ap (λ (t : Bool). if t then counted f else 0) (isnt id k (λ j. i (sym j))))) g;
+                  (λ i g. absurd (clash (is_live s.role ended id) g (ap (is_live s.role ended) i ∙ dead_now)))
+                  (λ i g. omega (arith, h.within id (sym (others_now id i).0 ∙ g), ap (λ (t : Bool). if t then counted f else 0) (isnt id k (λ j. i (sym j))))) g;
               untouched = untouched_now e;
             }
             )

@@ -11,7 +11,7 @@ use Rattle.h2_frames.specs.declared.frame.Frame.TheVariants.{Content, Headers, P
 use Rattle.h2_exchange.specs.declared.role.Role.{Role}
 use Rattle.h2_exchange.specs.declared.role.Role.TheVariants.{Client, Server}
 use Rattle.h2_exchange.specs.Exchange.{first_broken}
-use Rattle.h2_exchange.specs.Frames.{stream_of, is_headers, is_continuation, is_rst_stream, has_end_stream, has_end_headers}
+use Rattle.h2_exchange.specs.Frames.{stream_of, is_headers, is_rst_stream, has_end_stream, has_end_headers}
 use Rattle.h2_exchange.specs.Rules.{is_client, breaks_block_on}
 use Rattle.h2_exchange.specs.Streams.{is_odd}
 use Rattle.h2_streams.specs.declared.live.Fate.{Fate}
@@ -158,15 +158,15 @@ module _ (s : Set) (f : Frame) (places : ℕ) (server : s.role ≡ Server) (stre
 
         by : (c : Bool) → has_end_headers f ≡ c → Kept
         by true e = λ w.
-          let completed : completed_by s.block f ≡ Some (k, has_end_stream f) = ap (λ (b : Bool). if b then block_with s.block f else None) e ∙ opened in
-          let few : length s.live < s.limits.streams = few_others s.role (length s.live) s.limits.streams server (ap (λ (n : Bool). not (is_client s.role) && not (nat_lt (if n then length s.live else length s.live - 1) s.limits.streams)) (sym is_new) ∙ has_room_here t (k, has_end_stream f) sound completed refl) in
-          omega (arith, long, few, streams_fit)
+            let completed : completed_by s.block f ≡ Some (k, has_end_stream f) = ap (λ (b : Bool). if b then block_with s.block f else None) e ∙ opened in
+            let few : length s.live < s.limits.streams = few_others s.role (length s.live) s.limits.streams server (ap (λ (n : Bool). not (is_client s.role) && not (nat_lt (if n then length s.live else length s.live - 1) s.limits.streams)) (sym is_new) ∙ has_room_here t (k, has_end_stream f) sound completed refl) in
+            omega (arith, long, few, streams_fit)
         by false e = λ w.
-          let completed : completed_by s.block f ≡ None = ap (λ (b : Bool). if b then block_with s.block f else None) e in
-          let open_is : left_open s.block f ≡ Some (k, has_end_stream f) = ap (λ (b : Bool). if b then None else block_with s.block f) e ∙ opened in
-          let headless : u.has_head ≡ false = head_is ∙ ap (λ (o : Option (ℕ × Bool)). is_some o) completed in
-          let found : find (is_stream k) (live_behind s f) ≡ Some u = ap (find (is_stream k)) is ∙ found_last k u s.live (is_none (at k s) facts.1) (ap (λ (n : ℕ). n == k) id_is ∙ self_eq k) in
-          absurd (no_truth (sym (ap (λ (o : Option (ℕ × Bool)). is_waiting o (live_behind s f)) open_is ∙ ap is_headless found ∙ ap not headless) ∙ w))
+            let completed : completed_by s.block f ≡ None = ap (λ (b : Bool). if b then block_with s.block f else None) e in
+            let open_is : left_open s.block f ≡ Some (k, has_end_stream f) = ap (λ (b : Bool). if b then None else block_with s.block f) e ∙ opened in
+            let headless : u.has_head ≡ false = head_is ∙ ap (λ (o : Option (ℕ × Bool)). is_some o) completed in
+            let found : find (is_stream k) (live_behind s f) ≡ Some u = ap (find (is_stream k)) is ∙ found_last k u s.live (is_none (at k s) facts.1) (ap (λ (n : ℕ). n == k) id_is ∙ self_eq k) in
+            absurd (no_truth (sym (ap (λ (o : Option (ℕ × Bool)). is_waiting o (live_behind s f)) open_is ∙ ap is_headless found ∙ ap not headless) ∙ w))
 
     new_kept : Kept
     new_kept = by (fault_on s f (Some t)) refl
@@ -209,9 +209,9 @@ module _ (s : Set) (f : Frame) (places : ℕ) (server : s.role ≡ Server) (stre
       -- the block goes on: the stream waits as before
       waits : has_end_headers f ≡ false → (u : Stream) → u.id ≡ k → u.has_head ≡ t.has_head → live_behind s f ≡ replaced k u s.live → Kept
       waits e u id_is head_is same = λ w.
-        let open_is : left_open s.block f ≡ Some block = ap (λ (b : Bool). if b then None else block_with s.block f) e ∙ same_block in
-        let quiet : is_waiting (Some block) s.live ≡ false = sym (waits_replaced (Some block) k t u s.live id_is found head_is) ∙ ap (is_waiting (Some block)) (sym same) ∙ ap (λ (o : Option (ℕ × Bool)). is_waiting o (live_behind s f)) (sym open_is) ∙ w in
-        omega (arith, h quiet, ap length same, length-map s.live (λ (v : Stream). if is_stream k v then u else v))
+          let open_is : left_open s.block f ≡ Some block = ap (λ (b : Bool). if b then None else block_with s.block f) e ∙ same_block in
+          let quiet : is_waiting (Some block) s.live ≡ false = sym (waits_replaced (Some block) k t u s.live id_is found head_is) ∙ ap (is_waiting (Some block)) (sym same) ∙ ap (λ (o : Option (ℕ × Bool)). is_waiting o (live_behind s f)) (sym open_is) ∙ w in
+          omega (arith, h quiet, ap length same, length-map s.live (λ (v : Stream). if is_stream k v then u else v))
 
       -- the block is whole
       whole : has_end_headers f ≡ true → fault_on s f (Some t) ≡ None → Kept

@@ -1,5 +1,5 @@
 -- A server has a place for a new stream.
-use Rattle.std.proofs.Common.{◌≡◌, ℕ, ◌+◌, ◌<◌, ◌≤◌, Bool, true, false, not, List, [], ◌∷◌, ◌++◌, length, Option, Some, None, refl, sym, ap, ◌∙◌, arith}
+use Rattle.std.proofs.Common.{◌≡◌, ℕ, ◌<◌, ◌≤◌, Bool, true, false, not, List, [], ◌∷◌, length, Option, Some, None, refl, sym, ap, ◌∙◌, arith}
 use Rattle.std.specs.Prelude.{find, ◌==◌, if◌then◌else◌}
 use Rattle.std.proofs.lemmas.List.{length-map}
 use Rattle.h2_exchange.specs.declared.role.Role.{Role}
@@ -82,12 +82,12 @@ place_replaced Server streams places b k old new xs e f g h =
 pub place_without : (role : Role) (streams places : ℕ) (b : Option (ℕ × Bool)) (k : ℕ) (xs : List Stream) → length xs ≤ places → HasPlace role streams places b xs → HasPlace role streams places b (without k xs)
 place_without Client streams places b k xs le h = tt
 place_without Server streams places None k xs le h = (h.0, λ w. omega (arith, h.1 refl, without_fewer k xs))
-place_without Server streams places (Some block) k xs le h =
-    (
-    h.0, λ v. by_number (λ j. is_headless (find (is_stream j) (without k xs)) ≡ false → (is_headless (find (is_stream j) xs) ≡ false → length xs < places) → length (without k xs) < places) k block.0
-    (λ e w g. by (find (is_stream k) xs) refl (λ o n m. g (ap (λ (j : ℕ). is_headless (find (is_stream j) xs)) e ∙ ap is_headless (n ∙ m))))
-    (λ e w g. omega (arith, g (ap is_headless (sym (found_without k block.0 xs e)) ∙ w), without_fewer k xs)) v h.1
-    )
+place_without Server streams places (Some block) k xs le h = (
+  h.0,
+  λ v. by_number (λ j. is_headless (find (is_stream j) (without k xs)) ≡ false → (is_headless (find (is_stream j) xs) ≡ false → length xs < places) → length (without k xs) < places) k block.0
+      (λ e w g. by (find (is_stream k) xs) refl (λ o n m. g (ap (λ (j : ℕ). is_headless (find (is_stream j) xs)) e ∙ ap is_headless (n ∙ m))))
+      (λ e w g. omega (arith, g (ap is_headless (sym (found_without k block.0 xs e)) ∙ w), without_fewer k xs)) v h.1,
+)
   where
     by : (o : Option Stream) → find (is_stream k) xs ≡ o → ((p : Option Stream) → find (is_stream k) xs ≡ p → p ≡ None → length xs < places) → length (without k xs) < places
     by None e g = omega (arith, g None e refl, without_fewer k xs)

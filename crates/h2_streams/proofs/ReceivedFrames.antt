@@ -1,5 +1,5 @@
 -- What one more received frame changes of a stream.
-use Rattle.std.proofs.Common.{◌≡◌, ℕ, ◌+◌, ◌-◌, ◌<◌, max, Bool, true, false, not, ◌&&◌, ◌||◌, List, [], ◌∷◌, ◌++◌, Option, Some, None, refl, sym, ap, ◌∙◌, arith}
+use Rattle.std.proofs.Common.{◌≡◌, ℕ, ◌+◌, ◌-◌, max, Bool, true, false, not, ◌&&◌, ◌||◌, List, [], ◌∷◌, ◌++◌, Option, Some, None, refl, sym, ap, ◌∙◌, arith}
 use Rattle.std.specs.Prelude.{option_map, option_to_list, is_some, nat_lt, ◌==◌, if◌then◌else◌}
 use Rattle.std.specs.List.{list_any}
 use Rattle.std.proofs.lemmas.Bool.Decides.{nat_tests}
@@ -14,7 +14,7 @@ use Rattle.h2_exchange.specs.Blocks.{Block, block_with, completed_by, open_block
 use Rattle.h2_exchange.specs.Exchange.{Step, Received, received, sent}
 use Rattle.h2_exchange.specs.Frames.{stream_of, is_data, is_headers, is_rst_stream, is_window_update, has_end_stream, has_end_headers, increment_of, counted}
 use Rattle.h2_exchange.specs.Rules.{is_client, breaks_block_on}
-use Rattle.h2_exchange.specs.Streams.{of_client, highest, is_odd, is_new, begins, begun, is_begun, is_live, is_over, is_reset, is_ended_by, is_last_on, has_rst_stream, has_head}
+use Rattle.h2_exchange.specs.Streams.{of_client, highest, is_odd, is_new, begins, begun, is_begun, is_live, is_reset, is_ended_by, is_last_on, has_rst_stream, has_head}
 use Rattle.h2_exchange.specs.Windows.{granted_on, spent_on}
 use Rattle.h2_exchange.proofs.Looking.{or_nothing}
 use Rattle.h2_exchange.proofs.Steps.{received_push, sent_received, blocks_add, windows_add, begun_push, begun_list_push, highest_push}
@@ -127,7 +127,6 @@ heard_as limits ss id ended head given used = record {
 pub same_heard : (limits : H2Limits) (ss : List Frame) (id : ℕ) (e d h i : Bool) (g v u w : ℕ) → e ≡ d → h ≡ i → g ≡ v → u ≡ w → heard_as limits ss id e h g u ≡ heard_as limits ss id d i v w
 same_heard limits ss id e d h i g v u w p q r t =
     ap (λ (z : Bool). heard_as limits ss id z h g u) p ∙ ap (λ (z : Bool). heard_as limits ss id d z g u) q ∙ ap (λ (z : ℕ). heard_as limits ss id d i z u) r ∙ ap (λ (z : ℕ). heard_as limits ss id d i v z) t
-
 
 and_false : (e t : Bool) → t ≡ false → (e && t) ≡ false
 and_false true t p = p

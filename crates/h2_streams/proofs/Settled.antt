@@ -1,5 +1,5 @@
 -- The live streams behind a received frame, by what becomes of its stream.
-use Rattle.std.proofs.Common.{◌≡◌, ℕ, Bool, true, false, not, ◌&&◌, ◌||◌, List, [], ◌∷◌, ◌++◌, map, refl, sym, ap, ◌∙◌, arith}
+use Rattle.std.proofs.Common.{◌≡◌, ℕ, Bool, true, false, ◌||◌, List, [], ◌∷◌, ◌++◌, map, refl, sym, ap, ◌∙◌, arith}
 use Rattle.std.specs.Prelude.{filter, ◌==◌, if◌then◌else◌}
 use Rattle.std.specs.List.{list_any}
 use Rattle.std.proofs.lemmas.List.{append-nil}
@@ -8,7 +8,7 @@ use Rattle.h2_exchange.specs.Exchange.{Step}
 use Rattle.h2_exchange.specs.Frames.{stream_of}
 use Rattle.h2_exchange.specs.Streams.{begun, is_begun, is_live, live}
 use Rattle.h2_exchange.proofs.Steps.{begun_has, begun_within}
-use Rattle.h2_streams.specs.declared.live.Fate.TheVariants.{Unseen, Over, Alive}
+use Rattle.h2_streams.specs.declared.live.Fate.TheVariants.{Over, Alive}
 use Rattle.h2_streams.specs.declared.live.Stream.{Stream}
 use Rattle.h2_streams.specs.Live.{replaced, without, settled}
 use Rattle.h2_streams.specs.Set.{Set}

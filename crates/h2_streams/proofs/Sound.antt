@@ -33,7 +33,6 @@ second_none : (a b : Option ErrorCode) → option_or a b ≡ None → b ≡ None
 second_none None b e = e
 second_none (Some v) b e = absurd cc
 
-
 shapes : (a b c d e g : Bool) (p q : ErrorCode) → first_broken ((a, p) ∷ (b, p) ∷ (c, p) ∷ (d, p) ∷ (e, q) ∷ (g, p) ∷ []) ≡ None → (b ≡ false) × (c ≡ false) × (d ≡ false)
 shapes true b c d e g p q h = absurd cc
 shapes false true c d e g p q h = absurd cc
@@ -51,10 +50,10 @@ is_sound s f e =
     let shape : shape_error_in s f ≡ None = first_none (shape_error_in s f) (option_or (value_error s.role f) (window_error_in s f)) e in
     let rest : option_or (value_error s.role f) (window_error_in s f) ≡ None = second_none (shape_error_in s f) (option_or (value_error s.role f) (window_error_in s f)) e in
     let three : (is_push_promise f ≡ false) × (breaks_block_on (option_map (λ (b : ℕ × Bool). b.0) s.block) f ≡ false) × (breaks_number s.role s.highest f ≡ false) =
-      shapes (not s.is_started && not (is_setting f)) (is_push_promise f) (breaks_block_on (option_map (λ (b : ℕ × Bool). b.0) s.block) f) (breaks_number s.role s.highest f) (breaks_length s.highest f) (breaks_padding f) code.PROTOCOL_ERROR code.FRAME_SIZE_ERROR shape in
+    shapes (not s.is_started && not (is_setting f)) (is_push_promise f) (breaks_block_on (option_map (λ (b : ℕ × Bool). b.0) s.block) f) (breaks_number s.role s.highest f) (breaks_length s.highest f) (breaks_padding f) code.PROTOCOL_ERROR code.FRAME_SIZE_ERROR shape in
     let two : (nat_lt s.receive (counted f) ≡ false) × ((is_window_update f && stream_of f == 0 && nat_lt 2147483647 (s.send + increment_of f)) ≡ false) =
-      windows (nat_lt s.receive (counted f)) (is_window_update f && stream_of f == 0 && nat_lt 2147483647 (s.send + increment_of f)) (is_setting f && list_any (is_raising s.live) (settings_of (payload_of f))) code.FLOW_CONTROL_ERROR
-      (second_none (value_error s.role f) (window_error_in s f) rest) in
+    windows (nat_lt s.receive (counted f)) (is_window_update f && stream_of f == 0 && nat_lt 2147483647 (s.send + increment_of f)) (is_setting f && list_any (is_raising s.live) (settings_of (payload_of f))) code.FLOW_CONTROL_ERROR
+    (second_none (value_error s.role f) (window_error_in s f) rest) in
     record {
       no_promise = three.0;
       block = three.1;

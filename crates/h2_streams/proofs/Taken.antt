@@ -12,7 +12,7 @@ use Rattle.h2_exchange.specs.Frames.{stream_of}
 use Rattle.h2_exchange.specs.Rules.{frame_error}
 use Rattle.h2_exchange.specs.StreamErrors.{stream_error_of}
 use Rattle.h2_streams.specs.Judging.{frame_error_in}
-use Rattle.h2_streams.specs.Receiving.{fault_in, taken, answer_by, taken_by}
+use Rattle.h2_streams.specs.Receiving.{fault_in, answer_by, taken_by}
 use Rattle.h2_streams.specs.Set.{Set}
 use Rattle.h2_streams.specs.Stands.{StandsFor}
 use Rattle.h2_streams.proofs.Agrees.{fault_agrees}

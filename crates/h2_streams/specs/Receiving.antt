@@ -15,7 +15,7 @@ use Rattle.h2_exchange.specs.Windows.{settings_in, setting}
 use Rattle.h2_streams.specs.declared.live.Fate.{Fate}
 use Rattle.h2_streams.specs.declared.live.Fate.TheVariants.{Unseen, Over, Alive}
 use Rattle.h2_streams.specs.declared.live.Stream.{Stream}
-use Rattle.h2_streams.specs.Judging.{frame_error_in, live_error_in}
+use Rattle.h2_streams.specs.Judging.{live_error_in}
 use Rattle.h2_streams.specs.Live.{settled}
 use Rattle.h2_streams.specs.Set.{Set, at, new_stream}
 

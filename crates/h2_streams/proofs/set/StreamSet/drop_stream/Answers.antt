@@ -1,7 +1,6 @@
-use Rattle.std.proofs.Common.{◌≡◌, sym, ap, ◌∙◌, refl, arith}
-use Rattle.std.specs.Prelude.{find, option_map}
+use Rattle.std.proofs.Common.{arith}
+use Rattle.std.specs.Prelude.{option_map}
 use Rattle.std.specs.Vec.{vec_capacity}
-use Rattle.h2_streams.specs.Live.{is_stream}
 use Rattle.h2_streams.proofs.Places.{place_without}
 use Rattle.h2_streams.proofs.set.StreamSet.drop_stream.Goals as goal
 

@@ -1,4 +1,4 @@
-use Rattle.std.proofs.Common.{◌≡◌, sym, ap, ◌∙◌, refl, arith}
+use Rattle.std.proofs.Common.{sym, ap, ◌∙◌, refl, arith}
 use Rattle.std.specs.Prelude.{find, option_map}
 use Rattle.std.specs.Vec.{vec_capacity}
 use Rattle.h2_streams.specs.Live.{is_stream}
