@@ -68,7 +68,7 @@ no_last (Some block) b id e = by (has_end_headers (Headers b))
     by true = refl
     by false = refl
 
-or_falses : (a d b c : Bool) → d ≡ a → c ≡ false → (d || (b || c)) ≡ (a || b)
+pub or_falses : (a d b c : Bool) → d ≡ a → c ≡ false → (d || (b || c)) ≡ (a || b)
 or_falses true d b c e f = cc
 or_falses false d true c e f = cc
 or_falses false d false c e f = cc

@@ -52,7 +52,7 @@ dead_when true false true = refl
 dead_when true false false = refl
 dead_when false r h = refl
 
-or_true : (a d : Bool) → d ≡ true → (a || d) ≡ true
+pub or_true : (a d : Bool) → d ≡ true → (a || d) ≡ true
 or_true true d e = refl
 or_true false d e = e
 

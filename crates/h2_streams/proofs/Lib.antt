@@ -19,3 +19,4 @@ pub mod Idle
 pub mod Settled
 pub mod Hears
 pub mod Taken
+pub mod SentBlocks

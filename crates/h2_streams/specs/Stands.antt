@@ -35,8 +35,7 @@ pub record IsUntouched (limits : H2Limits) (x : List Step) (id : ℕ) : Type 0 w
   pub no_block : is_on id (open_block (received x)) ≡ false
 
 -- Each part of the set is what the exchange says. Besides, on a live stream no more was sent than was granted with the
--- largest initial window and no more was received than
--- was granted, and on a stream that may still begin nothing stood.
+-- largest initial window, and no more was received than was granted; and on a stream that may still begin nothing stood.
 pub record StandsFor (s : Set) (x : List Step) : Type 0 where
   pub live_is : s.live ≡ map (stream_at s.limits x) (live s.role x)
   pub highest_is : s.highest ≡ highest (of_client s.role x)

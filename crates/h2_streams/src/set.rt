@@ -1,10 +1,12 @@
-ghost use Rattle.std.specs.Prelude.{◌≡◌, ◌+◌, ◌^◌, ◌<◌, ◌≤◌, Err, List, [], ◌∷◌, ◌++◌, length, false, true, is_some, IfOk, OnErr};
-ghost use Rattle.h2_exchange.specs.declared.role.Role.TheVariants.{Client};
+ghost use Rattle.std.specs.Prelude.{◌≡◌, ◌+◌, ◌^◌, ◌<◌, ◌≤◌, ◌||◌, Some, Err, List, [], ◌∷◌, ◌++◌, length, false, true, is_some, IfOk, OnErr};
+ghost use Rattle.h2_exchange.specs.declared.role.Role.TheVariants.{Client, Server};
+ghost use Rattle.h2_frames.specs.declared.frame.Frame.{Frame};
 ghost use Rattle.h2_frames.specs.declared.frame.Frame.TheVariants.{Content, Headers, RstStream, WindowUpdate};
 ghost use Rattle.h2_frames.specs.declared.frame.FrameBody.{FrameBody};
 ghost use Rattle.h2_exchange.specs.declared.fault.SendFault.TheVariants.{IdsSpent};
 ghost use Rattle.h2_exchange.specs.Exchange.{Step, Sent, sent};
-ghost use Rattle.h2_exchange.specs.Frames.{has_end_stream, increment_of};
+ghost use Rattle.h2_exchange.specs.Blocks.{Block, completed};
+ghost use Rattle.h2_exchange.specs.Frames.{stream_of, is_headers, is_continuation, has_end_stream, increment_of};
 ghost use Rattle.h2_exchange.specs.Streams.{highest, is_live, is_open};
 ghost use Rattle.h2_exchange.specs.Windows as windows;
 ghost use Rattle.h2_streams.specs.Set.{Set, fresh, at, is_open_in, begun, next_id, dropped, finished, room_of, spent, credited, credited_on, receive_in};
@@ -154,13 +156,17 @@ impl StreamSet {
         Ok(id)
     }
 
-    /// Ends this side of an open stream. Where it ends with DATA, `sent` takes the bytes before.
+    /// Ends this side of an open stream, with DATA, whose bytes `sent` takes before, or with the frame that completes its
+    /// trailers.
     pub fn finish(&mut self, stream: u32)
         requires { is_open_in (at stream self.old) ≡ true }
         ensures exact { self.new ≡ finished stream self.old }
         ensures stands { (before : Set) (x : List Step) (b : FrameBody) → StandsFor before x → is_open before.role x stream ≡ true →
             b.stream ≡ stream → length b.payload ≤ room_of before (at stream before) → has_end_stream (Content b) ≡ true →
             self.old ≡ spent stream (length b.payload) before → StandsFor self.new (x ++ Sent (Content b) ∷ []) }
+        ensures trailers { (x : List Step) (f : Frame) (b : Block) → StandsFor self.old x → is_open self.old.role x stream ≡ true →
+            (is_headers f || is_continuation f) ≡ true → (is_headers f ≡ true → self.old.role ≡ Server) → stream_of f ≡ stream →
+            completed (sent x) f ≡ Some b → b.stream ≡ stream → b.last ≡ true → StandsFor self.new (x ++ Sent f ∷ []) }
     {
         self.end_here(stream);
     }
