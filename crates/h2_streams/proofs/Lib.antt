@@ -20,3 +20,4 @@ pub mod Settled
 pub mod Hears
 pub mod Taken
 pub mod SentBlocks
+pub mod Malformed

@@ -1,12 +1,18 @@
--- Sent frames that change no stream and no window.
-use Rattle.std.specs.Prelude.{◌≡◌, true, false, ◌||◌, ◌⊎◌, List, [], ◌∷◌, ◌++◌, Some}
+-- Sent frames that change no stream and no window, and malformed header blocks.
+use Rattle.std.specs.Prelude.{◌≡◌, true, false, ◌||◌, ◌⊎◌, List, [], ◌∷◌, ◌++◌, Option, Some, None, ◌==◌, if◌then◌else◌}
+use Rattle.h2_frames.specs.declared.code.ErrorCode.{ErrorCode}
+use Rattle.h2_frames.specs.declared.code.TheConstants.ErrorCode as code
 use Rattle.h2_frames.specs.declared.frame.Frame.{Frame}
 use Rattle.h2_frames.specs.declared.frame.Frame.TheVariants.{Headers, Settings, Ping, GoAway}
 use Rattle.h2_frames.specs.declared.frame.FrameBody.{FrameBody}
+use Rattle.h2_exchange.specs.declared.limits.H2Limits.{H2Limits}
+use Rattle.h2_exchange.specs.declared.role.Role.{Role}
 use Rattle.h2_exchange.specs.declared.role.Role.TheVariants.{Server}
 use Rattle.h2_exchange.specs.Blocks.{Block, completed}
-use Rattle.h2_exchange.specs.Exchange.{Step, Sent, sent}
+use Rattle.h2_exchange.specs.Exchange.{Step, Sent, received, sent}
 use Rattle.h2_exchange.specs.Frames.{is_headers, is_continuation, has_end_stream}
+use Rattle.h2_exchange.specs.StreamErrors.{stream_error_of}
+use Rattle.h2_exchange.specs.Streams.{is_live_at}
 use Rattle.h2_streams.specs.Set.{Set}
 use Rattle.h2_streams.specs.Stands.{StandsFor}
 
@@ -24,3 +30,14 @@ abbrev pub BlocksAreQuiet : Type 0
 BlocksAreQuiet =
     (s : Set) (x : List Step) (f : Frame) → (is_headers f || is_continuation f) ≡ true → (is_headers f ≡ true → s.role ≡ Server) → ((b : Block) → completed (sent x) f ≡ Some b → b.last ≡ false) → StandsFor s x →
     StandsFor s (x ++ Sent f ∷ [])
+
+-- the code of a malformed header block, which is no longer refused for want of room, where it has this error otherwise
+abbrev pub with_malformed : Option ErrorCode → ErrorCode
+with_malformed None = code.PROTOCOL_ERROR
+with_malformed (Some why) = if why.0 == code.REFUSED_STREAM.0 then code.PROTOCOL_ERROR else why
+
+-- What a set answers of a header block on a live stream says what its error is where its fields are malformed.
+abbrev pub MalformedBlocks : Type 0
+MalformedBlocks =
+    (role : Role) (limits : H2Limits) (x : List Step) (f : Frame) (b : Block) → completed (received x) f ≡ Some b → is_live_at role x f b.stream ≡ true →
+    stream_error_of role limits x f true ≡ Some (with_malformed (stream_error_of role limits x f false))

@@ -1,5 +1,6 @@
-//! Sent frames at which a set needs no call. Each law is the contract of a function that does nothing.
-ghost use Rattle.h2_streams.specs.Laws.{BlocksAreQuiet, ControlsAreQuiet, HeadsAreQuiet};
+//! Sent frames at which a set needs no call, and header blocks whose fields are malformed. Each law is the contract of a
+//! function that does nothing.
+ghost use Rattle.h2_streams.specs.Laws.{BlocksAreQuiet, ControlsAreQuiet, HeadsAreQuiet, MalformedBlocks};
 
 /// SETTINGS, PING and GOAWAY that are sent change nothing.
 pub fn controls_are_quiet()
@@ -14,4 +15,9 @@ pub fn heads_are_quiet()
 /// CONTINUATION, and HEADERS of a server, that end no stream change nothing.
 pub fn blocks_are_quiet()
     ensures { BlocksAreQuiet }
+{}
+
+/// A malformed header block is a stream error: that of an earlier rule, or PROTOCOL_ERROR.
+pub fn malformed_blocks()
+    ensures { MalformedBlocks }
 {}

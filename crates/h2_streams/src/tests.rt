@@ -91,8 +91,8 @@ fn a_server_takes_frames(rt: HostRuntime) -> Result<(), Fail> {
 #[test]
 fn a_lowered_setting_lowers_a_window(rt: HostRuntime) -> Result<(), Fail> {
     let mut set = StreamSet::new(rt.alloc(), Role::Client, limits())?;
-    let forty = answer(&rt, &mut set, b"\0\0\x06\x04\0\0\0\0\0\0\x04\0\0\0\x28")?;
     assert!(rt; matches!(set.begin(), Ok(1)));
+    let forty = answer(&rt, &mut set, b"\0\0\x06\x04\0\0\0\0\0\0\x04\0\0\0\x28")?;
     if set.may_send(1) >= 30 {
         set.sent(1, 30);
     }

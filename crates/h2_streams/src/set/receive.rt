@@ -114,8 +114,8 @@ fn highest_behind(highest: u32, is_new: bool, id: u32) -> u32
 impl StreamSet {
     /// Takes a frame that was received. It takes no memory.
     ///
-    /// The fields of a header block are the caller's to judge: where a block is malformed, and nothing that comes before
-    /// that in the order of the rules was answered, the caller resets its stream.
+    /// The fields of a header block are judged by the caller: where they are malformed it resets the stream, with the code
+    /// that the law `malformed_blocks` says.
     ///
     /// # Errors
     ///
