@@ -1,0 +1,34 @@
+-- What holds of a greeter.
+use Rattle.std.proofs.Common.{ℕ, ◌<◌, List, [], Option, refl, sym, ◌∙◌, arith}
+use Rattle.std.proofs.lemmas.List.Elements.{All-nil}
+use Rattle.h2_frames.specs.Reader.{Reader}
+use Rattle.hpack_tables.specs.Writing.{fresh}
+use Rattle.h2_exchange.specs.declared.limits.H2Limits.{H2Limits}
+use Rattle.h2_exchange.specs.declared.role.Role.{Role}
+use Rattle.h2_exchange.specs.Compression.{IsWritable}
+use Rattle.h2_conn.specs.declared.greeter.Ended.{Ended}
+use Rattle.h2_conn.specs.Course.{Course, IsSound, style_of, events_in}
+use Rattle.h2_conn.specs.Greeting.{IsAt}
+use Rattle.h2_conn.proofs.Unheard.{none_received, all_sent, no_data, no_received}
+use Rattle.h2_conn.proofs.Greeted.{no_blocks, none_written, no_acks, no_data_in}
+use Rattle.h2_conn.proofs.Placed.{placed}
+
+pub sound : (role : Role) (limits : H2Limits) (reader : Reader) (output : List ℕ) (ended : Option Ended) (c : Course) → IsAt role limits reader output ended c → IsSound c output
+sound role limits reader output ended c h = record {
+  front = rw (h.frames_are, none_received h.fs) tt;
+  within = rw (h.frames_are, none_received h.fs) (λ (p : 0 < 0). omega (arith, p));
+  text = rw (h.role_is) h.text;
+  read = record {
+    read = rw (h.heads_are) tt;
+    enough = λ past behind f b e looked done. absurd (no_received h.fs past behind f (sym h.frames_are ∙ e));
+  };
+  last = fresh (style_of c.role);
+  spelled = rw (h.written_is, h.frames_are, h.sent.frames_are) (none_written (fresh (style_of c.role)) h.sent.settings h.sent.update h.sent.last);
+  writable = rw (h.written_is) (All-nil IsWritable);
+  closed = rw (h.frames_are, all_sent h.fs, h.sent.frames_are) (no_blocks h.sent.settings h.sent.update h.sent.last).0;
+  given = rw (h.given_is) (events_in c, refl);
+  placed = rw (h.frames_are, h.sent.frames_are) (placed h.sent.settings h.sent.update h.sent.last);
+  acknowledged = rw (h.frames_are, all_sent h.fs, none_received h.fs, h.sent.frames_are, no_acks h.sent.settings h.sent.update h.sent.last h.sent.first.settings_are.flags_are) ([], refl);
+  windows = λ before behind b e. absurd (no_data h.fs before behind b (rw (h.sent.frames_are) (no_data_in h.sent.settings h.sent.update h.sent.last)) (sym h.frames_are ∙ e));
+  resets = λ alive past behind f why e. absurd (no_received h.fs past behind f (sym h.frames_are ∙ e));
+}

@@ -1,0 +1,7 @@
+pub mod Answers
+pub mod Course
+pub mod Drains
+pub mod Greeting
+pub mod Greets
+pub mod Reads
+pub mod Sends

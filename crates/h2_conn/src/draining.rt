@@ -1,0 +1,53 @@
+//! A connection whose events are let go.
+ghost use Rattle.std.specs.Prelude.{◌≡◌, IfOk, OnErr};
+ghost use Rattle.h2_conn.specs.Answers.{is_event};
+ghost use Rattle.h2_conn.specs.Course.{Course, Keeps, fed_more};
+ghost use Rattle.h2_conn.specs.Drains.{Drained};
+
+use crate::connection::Connection;
+use crate::event::H2Event;
+use bytes::Bytes;
+use std::alloc::AllocError;
+
+fn has_event(event: &H2Event) -> bool
+    ensures { result ≡ is_event event.now }
+{
+    match event {
+        H2Event::Head(_, _, _) => true,
+        H2Event::Piece(_, _) => true,
+        H2Event::Ended(_) => true,
+        H2Event::Reset(_, _) => true,
+        H2Event::GoneAway(_, _) => true,
+        H2Event::NeedMore => false,
+        H2Event::Refused(_, _) => false,
+        H2Event::Calm(_) => false,
+        H2Event::NoMemory => false,
+    }
+}
+
+fn let_go(_event: H2Event) {}
+
+/// Lets every event go.
+fn settle<C: Connection>(conn: &mut C) -> H2Event
+    ensures { (c : Course) → C.stands conn.old c → (d : Course) × C.stands conn.new d × Drained c result d }
+{
+    'events: loop {
+        let event = conn.next_event();
+        if !has_event(&event) {
+            return event;
+        }
+        let_go(event);
+    }
+}
+
+/// Takes the next piece and lets every event of it go, as behind the end of all calls. Answers what the
+/// connection says behind them: it wants more, or it refuses.
+pub fn drain<C: Connection>(conn: &mut C, piece: Bytes) -> Result<H2Event, AllocError>
+    ensures ok { (c : Course) → C.stands conn.old c → IfOk result (λ last. (d : Course) × C.stands conn.new d × Drained (fed_more piece c) last d) }
+    ensures err { OnErr result (Keeps (C.stands conn.old) (C.stands conn.new)) }
+{
+    match conn.feed(piece) {
+        Ok(()) => Ok(settle(conn)),
+        Err(error) => Err(error),
+    }
+}

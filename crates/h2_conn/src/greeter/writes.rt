@@ -1,0 +1,47 @@
+//! The bytes that a greeter sends.
+ghost use Rattle.std.specs.Prelude.{◌≡◌, ◌++◌, IfOk, OnOk, OnErr};
+ghost use Rattle.h2_exchange.specs.Order.{due_from_self};
+ghost use Rattle.h2_exchange.specs.Sending.{first_text};
+ghost use Rattle.h2_conn.specs.Greeting.{last_text};
+
+use h2_exchange::{H2Limits, Role};
+use h2_frames::ErrorCode;
+use std::alloc::{AllocError, Global};
+
+const PREFACE: &[u8] = b"PRI * HTTP/2.0\r\n\r\nSM\r\n\r\n";
+
+/// The settings of a side, and the connection's window raised, behind the preface that is due.
+pub fn first(alloc: Global, role: Role, limits: H2Limits) -> Result<Vec<u8>, AllocError>
+    ensures { IfOk result (λ out. out.items ≡ due_from_self role ++ first_text role limits) }
+{
+    let [a, b, c, d] = limits.window.to_be_bytes();
+    let [i, j, k, l] = (limits.window - 65_535).to_be_bytes();
+    let mut out = Vec::new(alloc);
+    match role {
+        Role::Client => {
+            out.extend_from_slice(PREFACE)?;
+            out.extend_from_slice(&[
+                0, 0, 12, 4, 0, 0, 0, 0, 0, 0, 2, 0, 0, 0, 0, 0, 4, a, b, c, d,
+            ])?;
+        }
+        Role::Server => {
+            let [e, f, g, h] = limits.streams.to_be_bytes();
+            out.extend_from_slice(&[
+                0, 0, 18, 4, 0, 0, 0, 0, 0, 0, 3, e, f, g, h, 0, 4, a, b, c, d,
+            ])?;
+            let [e, f, g, h] = limits.list.to_be_bytes();
+            out.extend_from_slice(&[0, 6, e, f, g, h])?;
+        }
+    }
+    out.extend_from_slice(&[0, 0, 4, 8, 0, 0, 0, 0, 0, i, j, k, l])?;
+    Ok(out)
+}
+
+/// Adds the GOAWAY of a connection where no stream was begun.
+pub fn goodbye(code: ErrorCode, out: &mut Vec<u8>) -> Result<(), AllocError>
+    ensures ok { OnOk result (out.new.items ≡ out.old.items ++ last_text code) }
+    ensures err { OnErr result (out.new.items ≡ out.old.items) }
+{
+    let [a, b, c, d] = code.0.to_be_bytes();
+    out.extend_from_slice(&[0, 0, 8, 7, 0, 0, 0, 0, 0, 0, 0, 0, 0, a, b, c, d])
+}

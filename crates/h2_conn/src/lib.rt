@@ -1,0 +1,15 @@
+//! A connection of HTTP/2 as the layers above use it: what it gives of the bytes that it is fed, and what it sends.
+#![tactic(auto)]
+
+mod connection;
+mod draining;
+mod event;
+mod greeter;
+
+pub use connection::Connection;
+pub use draining::drain;
+pub use event::H2Event;
+pub use greeter::Greeter;
+
+#[cfg(test)]
+mod tests;
