@@ -1,0 +1,101 @@
+-- A side that sends no head and no data spells nothing.
+use Rattle.std.proofs.Common.{◌≡◌, ℕ, false, true, List, [], ◌∷◌, ◌++◌, Option, Some, None, refl, ap, ◌∙◌}
+use Rattle.std.specs.Prelude.{option_to_list}
+use Rattle.grpc_framing.specs.declared.front.Front.TheVariants.{NeedMore}
+use Rattle.grpc_framing.specs.Framing.{messages_of, messages_upto}
+use Rattle.h2_frames.specs.declared.frame.Frame.{Frame}
+use Rattle.h2_frames.specs.declared.frame.Frame.TheVariants.{Settings, WindowUpdate, GoAway}
+use Rattle.h2_frames.specs.declared.frame.FrameBody.{FrameBody}
+use Rattle.hpack_tables.specs.declared.field.Field.{Field}
+use Rattle.h2_exchange.specs.declared.role.Role.{Role}
+use Rattle.h2_exchange.specs.declared.role.Role.TheVariants.{Client, Server}
+use Rattle.h2_exchange.specs.Blocks.{Block, block_with, blocks_behind, left_open, completed, completed_by}
+use Rattle.h2_exchange.specs.Exchange.{sent}
+use Rattle.h2_exchange.specs.Spelled.{Part, Unclosed, has_begun, parts, part_of, block_part}
+use Rattle.h2_conn.specs.declared.greeter.Greeter.{Greeter}
+use Rattle.h2_conn.specs.Greets as greets
+use Rattle.h2_conn.proofs.Greeted.{frames, blockless}
+use Rattle.h2_conn.proofs.Unheard.{all_sent}
+use Rattle.grpc_stream.specs.Talk.{Talk, IsSoundTalk, SpellsOn, owed, told_in}
+
+none_first : {A : Type 0} (o : Option A) (more : List A) → option_to_list o ++ more ≡ [] → o ≡ None
+none_first None more e = refl
+none_first (Some a) more e = absurd cc
+
+-- a frame that begins no block leaves none open and completes none
+begins_none : (f : Frame) → block_with None f ≡ None → (left_open None f ≡ None) × (completed_by None f ≡ None)
+begins_none f e =
+    let h = blockless (f ∷ []) (e, tt) in
+    (h.0, none_first (completed_by None f) (blocks_behind (left_open None f) []) h.1)
+
+none_on : (id : ℕ) (heads : List (List Field)) (past : List Frame) (o : Option Block) → o ≡ None → block_part id heads past o ≡ []
+none_on id heads past None e = refl
+none_on id heads past (Some b) e = absurd cc
+
+-- what is completed where none is open and none begins
+none_done : (opened : Option Block) (f : Frame) → opened ≡ None → block_with None f ≡ None → completed_by opened f ≡ None
+none_done None f p e = (begins_none f e).1
+none_done (Some b) f p e = absurd cc
+
+none_left : (opened : Option Block) (f : Frame) → opened ≡ None → block_with None f ≡ None → left_open opened f ≡ None
+none_left None f p e = (begins_none f e).0
+none_left (Some b) f p e = absurd cc
+
+join : {A : Type 0} (a b : List A) → a ≡ [] → b ≡ [] → a ++ b ≡ []
+join a b p q = rw (p, q) refl
+
+pub no_parts : (id : ℕ) (heads : List (List Field)) (s u : FrameBody) (last : Option FrameBody) → parts id heads (frames s u last) ≡ []
+no_parts id heads s u None =
+    let one = none_left None (Settings s) refl refl in
+    join (part_of id heads [] (Settings s)) (part_of id heads (Settings s ∷ []) (WindowUpdate u) ++ [])
+    (none_on id heads [] (completed [] (Settings s)) (none_done None (Settings s) refl refl))
+    (join (part_of id heads (Settings s ∷ []) (WindowUpdate u)) []
+    (none_on id heads (Settings s ∷ []) (completed (Settings s ∷ []) (WindowUpdate u)) (none_done (left_open None (Settings s)) (WindowUpdate u) one refl)) refl)
+no_parts id heads s u (Some b) =
+    let one = none_left None (Settings s) refl refl in
+    let two = none_left (left_open None (Settings s)) (WindowUpdate u) one refl in
+    join (part_of id heads [] (Settings s)) (part_of id heads (Settings s ∷ []) (WindowUpdate u) ++ (part_of id heads (Settings s ∷ WindowUpdate u ∷ []) (GoAway b) ++ []))
+    (none_on id heads [] (completed [] (Settings s)) (none_done None (Settings s) refl refl))
+    (join (part_of id heads (Settings s ∷ []) (WindowUpdate u)) (part_of id heads (Settings s ∷ WindowUpdate u ∷ []) (GoAway b) ++ [])
+    (none_on id heads (Settings s ∷ []) (completed (Settings s ∷ []) (WindowUpdate u)) (none_done (left_open None (Settings s)) (WindowUpdate u) one refl))
+    (join (part_of id heads (Settings s ∷ WindowUpdate u ∷ []) (GoAway b)) []
+    (none_on id heads (Settings s ∷ WindowUpdate u ∷ []) (completed (Settings s ∷ WindowUpdate u ∷ []) (GoAway b)) (none_done (left_open (left_open None (Settings s)) (WindowUpdate u)) (GoAway b) two refl)) refl))
+
+no_messages : messages_of 4294967295 [] ≡ record { messages = []; rest = []; ending = NeedMore }
+unfolding messages_of messages_upto
+no_messages = refl
+
+none_owed : (t : Talk) (id : ℕ) → t.taken ≡ [] → owed t id ≡ []
+none_owed t id e = rw e refl
+
+-- a head that isn't the end stands only where something does
+none_begins : {A : Type 0} (ps : List Part) → ps ≡ [] → has_begun ps ≡ true → A
+none_begins [] e h = absurd cc
+none_begins (p ∷ ps) e h = absurd cc
+
+silent : (role : Role) (t : Talk) (id : ℕ) → parts id t.course.written (sent t.course.frames) ≡ [] → owed t id ≡ [] → SpellsOn role t id
+silent Server t id none owes = record {
+  messages = [];
+  rest = [];
+  end = None;
+  spells = record { bytes = []; close = Unclosed; response = rw none (refl, refl); cut = no_messages; end_is = refl };
+  front = rw owes refl;
+  begins = none_begins _ none;
+}
+silent Client t id none owes = record {
+  messages = [];
+  rest = [];
+  ended = false;
+  asks = record { bytes = []; request = rw none (refl, refl); cut = no_messages };
+  front = rw owes refl;
+}
+
+pub sound : (g : Greeter) (t : Talk) → greets.StandsFor g t.course → t.told ≡ [] → t.taken ≡ [] → IsSoundTalk t (greets.output_of g)
+sound g t h told taken = record {
+  course = h.sound;
+  told = rw told (told_in t, refl);
+  spelled = λ id fits. silent t.course.role t id (ap (λ (fs : List Frame). parts id t.course.written fs) sent_is ∙ no_parts id t.course.written h.parts.sent.settings h.parts.sent.update h.parts.sent.last) (none_owed t id taken);
+}
+  where
+    sent_is : sent t.course.frames ≡ frames h.parts.sent.settings h.parts.sent.update h.parts.sent.last
+    sent_is = ap sent h.parts.frames_are ∙ all_sent h.parts.fs ∙ h.parts.sent.frames_are

@@ -1,0 +1,13 @@
+use Rattle.grpc_stream.proofs.Told.{at, no_event, says}
+use Rattle.grpc_stream.proofs.Unspelled.{sound}
+use Rattle.grpc_stream.proofs.listener.joins.ListenerCalls.next.Goals as goal
+
+pub returns-clause-says : goal.returns-clause-says
+returns-clause-says c = λ t h same.
+    let event = c.next_event-event in
+    let next = event.ensures.answers t.course h.conn in
+    let u = at t next.0 in (
+      u,
+      record { conn = next.1; told_is = h.told_is; taken_is = h.taken_is; sound = sound event.new.self u next.1 h.told_is h.taken_is },
+      rw (c.shown-told.ensures) (says event.new.self t event.result next.0 next.1 h.told_is (no_event event.result event.ensures.ahead) next.2),
+    )
