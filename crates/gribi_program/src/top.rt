@@ -72,10 +72,11 @@ pub fn gribi_main<S: Source, K: Sink>(
     output: &mut K,
 ) -> u8
     // 2 only where the words are no command, and where they are none nothing else but want of memory. Then the input is left
-    // alone, and the usage line is written, whole unless a write failed.
+    // alone. With 2 the usage line is written, whole unless a write failed, and with 6 nothing is.
     ensures words { result ≡ 2 → instances_in (map string_bytes words.now) ≡ None }
     ensures refused { instances_in (map string_bytes words.now) ≡ None → (result ≡ 2) ⊎ (result ≡ 6) }
-    ensures unread { result ≡ 2 → input.new ≡ input.old }
+    ensures unread { instances_in (map string_bytes words.now) ≡ None → input.new ≡ input.old }
+    ensures silent { instances_in (map string_bytes words.now) ≡ None → result ≡ 6 → output.new ≡ output.old }
     ensures usage_line { result ≡ 2 → Wrote (K.placed output.old) (codes "usage: gribi apply\n") (K.placed output.new) ⊎ Rose (K.faults output.old) (K.faults output.new) }
     ensures usage_part { result ≡ 2 → WrotePart (K.placed output.old) (codes "usage: gribi apply\n") (K.placed output.new) }
     // Else the answers of the one-thread server are written: a function of the bytes that were taken,
