@@ -2,6 +2,7 @@
 
 Its sources are kept as NAME.in, since the gate refuses sources outside the listed crates.
 """
+import atexit
 import pathlib
 import resource
 import shutil
@@ -16,6 +17,7 @@ def build(source: pathlib.Path, crates: dict[str, str], others: dict[str, pathli
     and under the name 'program' the crates that the program names. `others` has the program's files beside main.rt,
     by their places in its folder. Answers the executable."""
     room = pathlib.Path(tempfile.mkdtemp(prefix="gribi-bench-"))
+    atexit.register(shutil.rmtree, room, ignore_errors=True)
     for name in (line.split()[0] for line in crates):
         if name != "program":
             shutil.copytree(TOP / "crates" / name, room / "crates" / name, ignore=shutil.ignore_patterns("out", "must-fail"))
