@@ -4,7 +4,5 @@
 mod boxes;
 mod place;
 mod store;
-#[cfg(test)]
-mod tests;
 
 pub use store::Store;

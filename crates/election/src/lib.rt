@@ -10,9 +10,6 @@ ghost use Rattle.table_model.specs.Sessions.{is_live};
 ghost use Rattle.table_model.specs.Election as history;
 ghost use Rattle.election.specs.Poll.{StandsFor, announced, left};
 
-#[cfg(test)]
-mod tests;
-
 use std::marker::Model;
 
 /// How an announcement ended.

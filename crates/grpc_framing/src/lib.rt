@@ -8,6 +8,3 @@ mod laws;
 pub use cutter::{Cut, MessageCutter, Refusal};
 pub use front::{Front, front_of};
 pub use laws::{cut_goes_on, cut_is_whole, front_stays, written_messages_are_cut};
-
-#[cfg(test)]
-mod tests;

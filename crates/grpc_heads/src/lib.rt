@@ -15,6 +15,3 @@ pub use reading::{TrailerFault, read_trailers};
 pub use status::{ModifyReason, Status};
 pub use text::Text;
 pub use written::{request_head, response_head, trailers};
-
-#[cfg(test)]
-mod tests;

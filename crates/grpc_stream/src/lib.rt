@@ -11,6 +11,3 @@ mod listener;
 pub use calls::Calls;
 pub use event::CallEvent;
 pub use listener::Listener;
-
-#[cfg(test)]
-mod tests;

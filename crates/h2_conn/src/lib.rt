@@ -10,6 +10,3 @@ pub use connection::Connection;
 pub use draining::drain;
 pub use event::H2Event;
 pub use greeter::Greeter;
-
-#[cfg(test)]
-mod tests;

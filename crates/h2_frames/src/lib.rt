@@ -13,6 +13,3 @@ pub use code::ErrorCode;
 pub use frame::{Frame, FrameBody, OtherType};
 pub use reader::{FrameNext, FrameReader};
 pub use writer::write_frame;
-
-#[cfg(test)]
-mod tests;

@@ -9,6 +9,3 @@ mod settings;
 
 pub use h2_exchange::{H2Limits, Role, SendFault, StreamFault};
 pub use set::StreamSet;
-
-#[cfg(test)]
-mod tests;

@@ -10,6 +10,3 @@ mod tables;
 
 pub use decode::{HuffFault, huff_decode};
 pub use encode::huff_encode;
-
-#[cfg(test)]
-mod tests;

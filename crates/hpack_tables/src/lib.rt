@@ -19,6 +19,3 @@ pub use encoder::{HeaderEncoder, Style};
 pub use fault::HpackFault;
 pub use field::Field;
 pub use fields::Fields;
-
-#[cfg(test)]
-mod tests;

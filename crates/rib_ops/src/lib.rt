@@ -7,7 +7,5 @@ mod backups;
 mod check;
 mod operate;
 mod scan;
-#[cfg(test)]
-mod tests;
 
 pub use operate::{judge, perform};

@@ -11,9 +11,6 @@ ghost use Rattle.session_params.specs.Book.{StandsFor, set_reply, began, asked_f
 ghost use Rattle.session_params.specs.Rows.{is_of, is_entered, params_in, differing_in, seat_with, with_params};
 ghost use Rattle.session_params.specs.Ends.{set_end, seats_after};
 
-#[cfg(test)]
-mod tests;
-
 use std::alloc::{AllocError, Global};
 use std::marker::Model;
 pub use table_model::{AckType, AskedParams, Params, Persistence, Redundancy};

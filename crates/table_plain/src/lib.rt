@@ -22,6 +22,3 @@ mod tasks;
 pub use event::Event;
 pub use playing::{History, play};
 pub use reply::reply_of;
-
-#[cfg(test)]
-mod tests;

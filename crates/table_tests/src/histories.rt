@@ -1,0 +1,222 @@
+ghost use Rattle.std.specs.Prelude.{◌≡◌};
+ghost use Rattle.rib_core.specs.Built.{is_built};
+
+use crate::replies::{Told, seen};
+use crate::steps::Do::{
+    Add, AllPrimary, Announce, Bad, Begin, Delete, Leave, Params as Ask, Replace,
+};
+use crate::steps::Item::{Group, Hop, Net, Net6};
+use crate::steps::{Do, command};
+use aft_entries::Reason;
+use rib_core::RibCore;
+use std::alloc::{AllocError, Global};
+use std::test::Fail;
+use table_model::AckType::{Rib, RibAndFib};
+use table_model::Persistence::{Delete as Gone, Preserve};
+use table_model::{Command, Config, Params};
+
+// Whether the core takes the command.
+fn is_taken(command: &Command) -> bool
+    ensures { result ≡ is_built command.now }
+{
+    match command {
+        Command::Begin => true,
+        Command::SetParams(_, _) => true,
+        Command::Announce(_, _) => true,
+        Command::Operate(_, _, _) => true,
+        Command::Leave(_) => true,
+        Command::Collect(_) => false,
+        Command::Flush(_, _, _) => false,
+        Command::Select(_, _) => false,
+        Command::Take(_, _) => false,
+        Command::Report(_, _, _) => false,
+        Command::Halt => false,
+    }
+}
+
+fn discard(command: Command) -> Told {
+    let _ = command;
+    Told::NoMemory
+}
+
+fn answer(core: &mut RibCore, command: Command) -> Told {
+    if core.events() < 1000 && is_taken(&command) {
+        seen(&core.act(command))
+    } else {
+        discard(command)
+    }
+}
+
+// How many replies, from the first on, are those that are told.
+fn as_told(alloc: Global, core: &mut RibCore, steps: &[(Do, Told)]) -> Result<usize, AllocError> {
+    let mut same = 0;
+    for (step, wanted) in steps {
+        if answer(core, command(alloc, *step)?) != *wanted {
+            return Ok(same);
+        }
+        same = same.wrapping_add(1);
+    }
+    Ok(same)
+}
+
+// How many replies of a core with a limit are those that are told, and how many entries it has then.
+fn played(alloc: Global, limit: u64, steps: &[(Do, Told)]) -> Result<(usize, u64), AllocError> {
+    let config = Config {
+        instances: 2,
+        workers: 1,
+        limit: limit.max(1).min(1000),
+    };
+    let mut core = RibCore::new(alloc, config)?;
+    let same = as_told(alloc, &mut core, steps)?;
+    Ok((same, core.entries()))
+}
+
+// An equal id wins for the session that came last.
+const EQUAL_IDS: &[(Do, Told)] = &[
+    (Begin, Told::Began(0)),
+    (Ask(0, Preserve, Rib), Told::Set),
+    (Begin, Told::Began(2)),
+    (Ask(2, Preserve, Rib), Told::Set),
+    (Announce(0, 0), Told::ZeroId),
+    (Announce(0, 1), Told::Announced(1)),
+    (Announce(0, u128::MAX), Told::Announced(u128::MAX)),
+    (Announce(2, u128::MAX), Told::Announced(u128::MAX)),
+    (Add(0, u128::MAX, Hop(1)), Told::Failed(Reason::NotPrimary)),
+    (Add(2, u128::MAX, Hop(1)), Told::Accepted),
+    (Add(2, 1, Hop(1)), Told::Failed(Reason::ElectionIdDiffers)),
+];
+
+// A session that announces a lower id is the primary no longer.
+const LOWER_ID: &[(Do, Told)] = &[
+    (Begin, Told::Began(0)),
+    (Ask(0, Preserve, Rib), Told::Set),
+    (Announce(0, 1), Told::Announced(1)),
+    (Announce(0, 5), Told::Announced(5)),
+    (Announce(0, 4), Told::Announced(5)),
+    (Add(0, 5, Hop(1)), Told::Failed(Reason::NotPrimary)),
+    (Announce(0, 5), Told::Announced(5)),
+    (Add(0, 5, Hop(1)), Told::Accepted),
+];
+
+const NET: u32 = 0xc633_6400;
+
+const IN_USE: Told = Told::Failed(Reason::InUse);
+
+// Entries before and after what they refer to, in the same instance and in another.
+const REFERENCES: &[(Do, Told)] = &[
+    (Begin, Told::Began(0)),
+    (Ask(0, Preserve, Rib), Told::Set),
+    (Announce(0, 1), Told::Announced(1)),
+    (Add(0, 1, Net(0, NET, 1)), Told::Failed(Reason::Unresolved)),
+    (Add(0, 1, Hop(1)), Told::Accepted),
+    (Add(0, 1, Group(1, 1, None)), Told::Accepted),
+    (Add(0, 1, Net(0, NET + 1, 1)), Told::Failed(Reason::BadKey)),
+    (
+        Add(0, 1, Net(2, NET, 1)),
+        Told::Failed(Reason::UnknownInstance),
+    ),
+    (Add(0, 1, Net(0, NET, 1)), Told::Accepted),
+    (Delete(0, 1, Group(1, 1, None)), IN_USE),
+    (Delete(0, 1, Hop(1)), IN_USE),
+    (Add(0, 1, Net6(1, 1)), Told::Accepted),
+    (Delete(0, 1, Net(0, NET, 1)), Told::Accepted),
+    (Delete(0, 1, Group(1, 1, None)), IN_USE),
+    (Delete(0, 1, Hop(9)), Told::Accepted),
+    (Replace(0, 1, Hop(1)), Told::Accepted),
+    (Replace(0, 1, Hop(1)), Told::Accepted),
+    (Replace(0, 1, Hop(4)), Told::Failed(Reason::NotThere)),
+    (
+        Bad(0, 1, Reason::KindUnsupported),
+        Told::Failed(Reason::KindUnsupported),
+    ),
+];
+
+const DEEP: Told = Told::Failed(Reason::BackupDepth);
+
+// Chains of up to four groups, by their backups, none of which comes back.
+const BACKUPS: &[(Do, Told)] = &[
+    (Begin, Told::Began(0)),
+    (Ask(0, Preserve, Rib), Told::Set),
+    (Announce(0, 1), Told::Announced(1)),
+    (Add(0, 1, Hop(1)), Told::Accepted),
+    (Add(0, 1, Group(3, 1, None)), Told::Accepted),
+    (Add(0, 1, Group(3, 1, Some(3))), DEEP),
+    (Add(0, 1, Group(2, 1, Some(3))), Told::Accepted),
+    (Add(0, 1, Group(3, 1, Some(2))), DEEP),
+    (Add(0, 1, Group(1, 1, Some(2))), Told::Accepted),
+    (Add(0, 1, Group(4, 1, Some(1))), Told::Accepted),
+    (Add(0, 1, Group(5, 1, Some(4))), DEEP),
+    (Add(0, 1, Group(5, 1, None)), Told::Accepted),
+    (Add(0, 1, Group(3, 1, Some(5))), DEEP),
+    (Add(0, 1, Group(6, 1, Some(5))), Told::Accepted),
+];
+
+// A full table takes no new key, but what is there again.
+const FULL: &[(Do, Told)] = &[
+    (Begin, Told::Began(0)),
+    (Ask(0, Preserve, Rib), Told::Set),
+    (Announce(0, 1), Told::Announced(1)),
+    (Add(0, 1, Hop(1)), Told::Accepted),
+    (Add(0, 1, Hop(2)), Told::Accepted),
+    (Add(0, 1, Hop(3)), Told::Accepted),
+    (Add(0, 1, Hop(4)), Told::Accepted),
+    (Add(0, 1, Hop(5)), Told::Failed(Reason::TableFull)),
+    (Add(0, 1, Hop(4)), Told::Accepted),
+    (Delete(0, 1, Hop(1)), Told::Accepted),
+    (Add(0, 1, Hop(5)), Told::Accepted),
+];
+
+const SET: Params = Params {
+    persistence: Preserve,
+    ack: Rib,
+};
+
+// Parameters and what goes before them.
+const PARAMETERS: &[(Do, Told)] = &[
+    (Begin, Told::Began(0)),
+    (AllPrimary(0), Told::Unsupported),
+    (Announce(0, 1), Told::NoParams),
+    (Add(0, 1, Hop(1)), Told::NoParams),
+    (Ask(0, Preserve, RibAndFib), Told::Unsupported),
+    (Ask(0, Preserve, Rib), Told::Set),
+    (Ask(0, Preserve, Rib), Told::NotAllowed),
+    (Begin, Told::Began(7)),
+    (Ask(7, Gone, Rib), Told::Differ(SET)),
+    (Ask(5, Gone, Rib), Told::Gone),
+];
+
+// The primary takes all entries with it under DELETE, whoever put them; another session takes none.
+const LEAVING: &[(Do, Told)] = &[
+    (Begin, Told::Began(0)),
+    (Ask(0, Gone, Rib), Told::Set),
+    (Announce(0, 1), Told::Announced(1)),
+    (Add(0, 1, Hop(1)), Told::Accepted),
+    (Begin, Told::Began(4)),
+    (Ask(4, Gone, Rib), Told::Set),
+    (Announce(4, 1), Told::Announced(1)),
+    (Add(4, 1, Group(1, 1, None)), Told::Accepted),
+    (Leave(0), Told::Left),
+    (Leave(0), Told::Gone),
+    (Delete(4, 1, Hop(1)), IN_USE),
+    (Leave(4), Told::Left),
+    (Begin, Told::Began(12)),
+];
+
+// The limit, what is asked and told, and how many entries there are then.
+const HISTORIES: &[(u64, &[(Do, Told)], u64)] = &[
+    (1000, EQUAL_IDS, 1),
+    (1000, LOWER_ID, 1),
+    (1000, REFERENCES, 3),
+    (1000, BACKUPS, 7),
+    (4, FULL, 4),
+    (1000, PARAMETERS, 0),
+    (1000, LEAVING, 0),
+];
+
+#[test]
+fn histories_are_answered(rt: HostRuntime) -> Result<(), Fail> {
+    for (limit, steps, entries) in HISTORIES {
+        assert_eq!(rt; played(rt.alloc(), *limit, steps)?, (steps.len(), *entries));
+    }
+    Ok(())
+}

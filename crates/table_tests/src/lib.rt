@@ -1,0 +1,19 @@
+//! Tests of the table's crates, through public calls.
+#![tactic(auto)]
+
+#[cfg(test)]
+mod announcements;
+#[cfg(test)]
+mod histories;
+#[cfg(test)]
+mod operations;
+#[cfg(test)]
+mod parameters;
+#[cfg(test)]
+mod plain_replies;
+#[cfg(test)]
+mod replies;
+#[cfg(test)]
+mod steps;
+#[cfg(test)]
+mod stored_entries;
