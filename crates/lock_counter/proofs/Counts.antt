@@ -2,11 +2,12 @@
 use Rattle.std.proofs.Common.{◌≡◌, ◌≢◌, ℕ, zero, suc, ◌+◌, ◌%◌, ◌^◌, ◌<◌, List, [], ◌∷◌, ◌++◌, sum, Bool, true, false, cond, eqb, eq-eqb, sym, ap, subst, ◌∙◌, refl, arith}
 use Rattle.std.proofs.Math.Nat.{mod-eq_of_lt, mod-lt, mod-add-mod, add-zero}
 use Rattle.std.proofs.lemmas.List.Sums.{sum_by-cons}
+use Rattle.std.proofs.lemmas.List.{map-append}
 use mathlib.Core.Option.{some, some-injective, some-ne-none}
 use lib.ListN.{get_elem?}
 use Rattle.table_lock.specs.declared.machine.Entry.{Entry}
 use Rattle.table_lock.specs.declared.view.Item.{Item}
-use Rattle.table_lock.specs.Passes.{PassView, IsClosed, item}
+use Rattle.table_lock.specs.Passes.{PassView, IsCalled, IsClosed, item}
 use Rattle.table_lock.specs.Lock.{calls_of, entry}
 use Rattle.lock_counter.specs.Totals.{total_after, IsLegal, Stands, added}
 
@@ -22,6 +23,21 @@ pub stands_more : (first total by c : ℕ) (log : List (Entry ℕ ℕ)) → Stan
 stands_more first total by c log h =
     let same : (total + c) % 2 ^ 64 ≡ (total_after first log + c) % 2 ^ 64 = ap (λ (x : ℕ). (x + c) % 2 ^ 64) h.total_is in
     record { total_is = same ∙ sym (after_more first log (entry by c ((total + c) % 2 ^ 64))); legal = legal_more first log (entry by c ((total + c) % 2 ^ 64)) h.legal same }
+
+-- the last of a lawful history answered the total
+legal_last : (t : ℕ) (log : List (Entry ℕ ℕ)) (e : Entry ℕ ℕ) → IsLegal t (log ++ e ∷ []) → e.reply ≡ total_after t (log ++ e ∷ [])
+legal_last t [] e h = h.0
+legal_last t (x ∷ xs) e h = legal_last ((t + x.command) % 2 ^ 64) xs e h.1
+
+-- what a call that was answered told its pass
+pub told : (setup : ℕ) (p q : PassView ℕ ℕ ℕ) (amount total : ℕ) → IsCalled (λ t log. IsLegal t log) setup p q amount total
+    → (q.mine ≡ p.mine ++ entry p.number amount total ∷ []) × (total ≡ total_after setup q.seen) × IsLegal setup q.seen
+told setup p q amount total h =
+    let last = legal_last setup (p.seen ++ h.between) (entry p.number amount total) (subst (λ (l : List (Entry ℕ ℕ)). IsLegal setup l) h.history h.legal) in
+    (h.mine, subst (λ (l : List (Entry ℕ ℕ)). total ≡ total_after setup l) (sym h.history) last, h.legal)
+
+pub added_more : (log mine : List (Entry ℕ ℕ)) (by amount total : ℕ) → mine ≡ log ++ entry by amount total ∷ [] → added mine ≡ added log ++ amount ∷ []
+added_more log mine by amount total is = ap added is ∙ map-append (λ (e : Entry ℕ ℕ). e.command) log (entry by amount total ∷ [])
 
 sum_added : (x : Entry ℕ ℕ) (xs : List (Entry ℕ ℕ)) → sum (added (x ∷ xs)) ≡ x.command + sum (added xs)
 sum_added x xs = sum_by-cons (λ (n : ℕ). n) x.command (added xs)

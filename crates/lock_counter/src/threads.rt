@@ -1,8 +1,8 @@
 //! What threads do with a counter under a lock.
-ghost use Rattle.std.specs.Prelude.{◌≡◌, ℕ, ◌+◌, ◌%◌, ◌^◌, ◌<◌, [], ◌∷◌, ◌++◌, IfOk, IfSome, sum, true};
+ghost use Rattle.std.specs.Prelude.{◌≡◌, ℕ, ◌+◌, ◌%◌, ◌^◌, ◌<◌, ◌≤◌, [], ◌∷◌, ◌++◌, IfOk, IfErr, IfSome, sum, true, false};
 ghost use Rattle.table_lock.specs.Passes.{IsPassOf, IsNoteOf, IsExtended};
 ghost use Rattle.table_lock.specs.Lock.{entry};
-ghost use Rattle.lock_counter.specs.Totals.{Stands, IsLegal, added};
+ghost use Rattle.lock_counter.specs.Totals.{Stands, IsLegal, added, total_after};
 
 use crate::counter::Counter;
 use std::alloc::{AllocError, Global};
@@ -10,7 +10,7 @@ use std::sync::Wait;
 use std::thread::{Threads, join};
 use table_lock::{Machine, Note, Pass, Spent, TableLock};
 
-/// Adds one number, and returns the total that it left.
+/// Adds one number, and returns the total that it left. Spent where 2^62 tickets had been drawn.
 pub fn add<R: Wait>(
     rt: &R,
     lock: &TableLock<Counter>,
@@ -19,12 +19,13 @@ pub fn add<R: Wait>(
 ) -> Result<u64, Spent>
     requires { IsPassOf lock.now pass.old }
     ensures same { IsPassOf lock.now pass.new × (pass.new.number ≡ pass.old.number) }
-    ensures ok { IfOk result (λ total. (added pass.new.mine ≡ added pass.old.mine ++ amount ∷ []) × IsLegal lock.now.setup pass.new.seen) }
+    ensures ok { IfOk result (λ total. (pass.new.mine ≡ pass.old.mine ++ entry pass.old.number amount total ∷ []) × (total ≡ total_after lock.now.setup pass.new.seen) × IsLegal lock.now.setup pass.new.seen) }
+    ensures spent { IfErr result (λ _. (2 ^ 62 ≤ pass.new.ticket) × (pass.new ≡ record pass.old { ticket = pass.new.ticket })) }
 {
     lock.call(rt, pass, amount)
 }
 
-/// Adds each number, and returns the pass. True where no call was refused.
+/// Adds each number, and returns the pass. False where 2^62 tickets had been drawn before all were added.
 pub fn add_all<R: Wait>(
     rt: &R,
     lock: &TableLock<Counter>,
@@ -34,6 +35,7 @@ pub fn add_all<R: Wait>(
     requires { IsPassOf lock.now pass }
     ensures pass { IsPassOf lock.now result.0 × (result.0.number ≡ pass.number) }
     ensures all { result.1 ≡ true → added result.0.mine ≡ added pass.mine ++ amounts.now }
+    ensures spent { result.1 ≡ false → 2 ^ 62 ≤ result.0.ticket }
 {
     for amount in amounts {
         if add(rt, lock, &mut pass, *amount).is_err() {
@@ -54,6 +56,7 @@ pub fn add_all_after<R: Wait>(
     requires { IsPassOf lock.now pass × IsNoteOf lock.now note }
     ensures pass { IsPassOf lock.now result.0 × (result.0.number ≡ pass.number) }
     ensures all { result.1 ≡ true → added result.0.mine ≡ added pass.mine ++ amounts.now }
+    ensures spent { result.1 ≡ false → 2 ^ 62 ≤ result.0.ticket }
 {
     lock.learn(&mut pass, note);
     add_all(rt, lock, pass, amounts)

@@ -5,6 +5,7 @@ ghost use Rattle.table_model.specs.Legal.{is_formed_ask};
 ghost use Rattle.rib_core.specs.Stands.{StandsFor, Acts};
 ghost use Rattle.rib_core.specs.Built.{is_built, is_in_range, as_served, served_ack, served_params};
 ghost use Rattle.rib_core.specs.Decisions.{purges_in, refuse_in, verdict_in, Accepts};
+ghost use Rattle.rib_core.specs.Decisions as decisions;
 ghost use Rattle.table_model.specs.Election as election;
 ghost use Rattle.table_model.specs.Rib as rib;
 ghost use Rattle.rib_core.specs.Ends.{announce_reply};
@@ -152,7 +153,7 @@ impl RibCore {
         ensures count { self.new.count ≤ self.old.count + 1 }
     {
         let _ = now;
-        is_formed(&operation.ask);
+        formed_by_type(&operation.ask);
         match self.refuse(session, &operation) {
             Some(reply) => {
                 discard(operation);
@@ -170,15 +171,14 @@ impl RibCore {
     fn refuse(&self, session: u64, operation: &Operation) -> Option<Reply>
         ensures { result ≡ refuse_in self.now session operation.now }
     {
-        if !self.sessions.is_entered(session) {
-            return Some(Reply::Gone);
-        }
-        if self.sessions.params_of(session).is_none() {
-            return Some(Reply::NoParams);
-        }
-        match self.verdict(session, operation) {
-            Some(reason) => Some(Reply::RibFailed(reason)),
-            None => None,
+        match self.sessions.seat(session) {
+            None => Some(Reply::Gone),
+            Some(seat) => {
+                if seat.params.is_none() {
+                    return Some(Reply::NoParams);
+                }
+                failed(self.verdict(session, operation))
+            }
         }
     }
 
@@ -273,18 +273,19 @@ fn served_type(ack: Option<AckType>) -> Option<AckType>
     }
 }
 
-// An entry that is put has a payload of its key's kind, by its type.
-fn is_formed(ask: &Ask)
+// An entry that is put has a payload of its key's kind. This and the next read what the entry's type keeps, for
+// the proof.
+fn formed_by_type(ask: &Ask)
     ensures { is_formed_ask ask.now ≡ true }
 {
     match ask {
-        Ask::Put(entry, _) => is_fit(entry),
+        Ask::Put(entry, _) => fit_by_type(entry),
         Ask::Remove(_) => {}
         Ask::Bad(_) => {}
     }
 }
 
-fn is_fit(entry: &Entry)
+fn fit_by_type(entry: &Entry)
     ensures { fits entry.now.key.name entry.now.payload ≡ true }
 {
     let _key = entry.key;
@@ -334,6 +335,15 @@ fn is_id(given: Option<u128>, highest: u128) -> bool
     match given {
         None => false,
         Some(id) => id == highest,
+    }
+}
+
+fn failed(reason: Option<Reason>) -> Option<Reply>
+    ensures { result ≡ decisions.failed reason }
+{
+    match reason {
+        Some(reason) => Some(Reply::RibFailed(reason)),
+        None => None,
     }
 }
 

@@ -1,4 +1,4 @@
-ghost use Rattle.std.specs.Prelude.{◌≡◌, ◌≤◌, max, length, option_and_then};
+ghost use Rattle.std.specs.Prelude.{◌≡◌, ◌+◌, ◌≤◌, max, nat_lt, length, option_and_then};
 ghost use Rattle.std.specs.List.{list_any};
 ghost use Rattle.aft_entries.specs.Order.{key_eq};
 ghost use Rattle.table_model.specs.Table.{names_key};
@@ -26,9 +26,18 @@ fn is_too_deep_with(store: &Store, key: &Key, backup: Option<Key>) -> bool
         Some(first) => {
             let comes_back = is_in_chain(store, key, Some(first), 4);
             let below = chain_length(store, Some(first), 4);
-            comes_back || 1 + below + above(store, key, 4) > 4
+            comes_back || is_past_four(store, key, below)
         }
     }
+}
+
+// Whether the chains through the group get more than four groups, with so many from its backup on. No more groups
+// above it are looked for than are too many.
+fn is_past_four(store: &Store, group: &Key, below: u64) -> bool
+    requires { below ≤ 4 }
+    ensures { result ≡ nat_lt 4 (1 + below + spec.above 4 store.now.entries group.now) }
+{
+    1 + below + above(store, group, 4 - below) > 4
 }
 
 // The key of the entry's backup.

@@ -44,7 +44,7 @@ fn judge_put(
         Some(Reason::Unresolved)
     } else if is_too_deep(store, entry) {
         Some(Reason::BackupDepth)
-    } else if !replace && store.len() >= limit && !has(store, &key) {
+    } else if store.len() >= limit && !has(store, &key) {
         Some(Reason::TableFull)
     } else {
         None

@@ -13,9 +13,21 @@ pub fn has(store: &Store, key: &Key) -> bool
     store.get(key).is_some()
 }
 
-/// Whether some entry refers to the key.
-#[tactic(auto, unfolding(table_model::specs::Table::used))]
+/// Whether some entry refers to the key. None refers to a prefix or a label, so these need no scan.
 pub fn is_used(store: &Store, key: &Key) -> bool
+    ensures { result ≡ spec.used store.now.entries key.now }
+{
+    match key.name {
+        KeyName::Hop(_) => is_referred(store, key),
+        KeyName::Group(_) => is_referred(store, key),
+        KeyName::V4(_) => false,
+        KeyName::V6(_) => false,
+        KeyName::Label(_) => false,
+    }
+}
+
+#[tactic(auto, unfolding(table_model::specs::Table::used))]
+fn is_referred(store: &Store, key: &Key) -> bool
     ensures { result ≡ spec.used store.now.entries key.now }
 {
     for n in 0..store.len() {

@@ -1,6 +1,6 @@
 -- What a book of sessions stands for after one more event.
 use Rattle.std.proofs.Common.{◌≡◌, ℕ, Bool, true, false, List, [], ◌∷◌, ◌++◌, map, length, Some, None, Option, refl, sym, ap, ◌∙◌, arith}
-use Rattle.std.specs.Prelude.{not, nat_eq, cond, filter, is_some}
+use Rattle.std.specs.Prelude.{not, nat_eq, cond, filter, find, is_some}
 use Rattle.std.proofs.lemmas.Bool.{eqb-true}
 use Rattle.std.proofs.lemmas.Bool.Decides.{nat_tests}
 use Rattle.table_model.specs.declared.command.Command.{Command}
@@ -19,7 +19,7 @@ use Rattle.session_params.specs.declared.SetEnd.TheVariants as end
 use Rattle.session_params.specs.Book.{seat_of, seats_of, StandsFor, set_reply, began, asked_for, left}
 use Rattle.session_params.specs.Ends.{set_end, seats_after, end_by}
 use Rattle.session_params.specs.Rows.{is_of, is_entered, params_in, differing_in, with_params}
-use Rattle.session_params.proofs.SeatLemmas.{map_same, map-append, entered_live, params_live, differing_live, seats_without}
+use Rattle.session_params.proofs.SeatLemmas.{map_same, map-append, entered_live, params_live, seat_live, differing_live, seats_without}
 
 eq_self : (n : ℕ) → nat_eq n n ≡ true
 eq_self n = grind (arith, nat_tests)
@@ -53,6 +53,9 @@ module _ (seats : List Seat) (past : List Event) (session : ℕ) (stands : Stand
 
   pub params_by : is_live past session ≡ true → params_in session seats ≡ params_of past session
   params_by alive = ap (params_in session) stands ∙ params_live past session alive
+
+  pub seat_by : find (is_of session) seats ≡ cond (is_live past session) (Some (seat_of past session)) None
+  seat_by = ap (find (is_of session)) stands ∙ seat_live past session
 
   pub enters : session ≡ length past → params_of past session ≡ None → StandsFor (seats ++ record { session = session; params = None } ∷ []) (began session ∷ past)
   unfolding seats_of live params_of

@@ -27,6 +27,19 @@ module _ (past : List Event) (session : ℕ) where
   unfolding seats_of
   entered_live = entered (live past)
 
+  seat_here : (b : Bool) (x : ℕ) (rest : Option Seat) (more : Bool) → nat_eq x session ≡ b → rest ≡ cond more (Some (seat_of past session)) None
+      → cond (nat_eq x session) (Some (seat_of past x)) rest ≡ cond (nat_eq x session || more) (Some (seat_of past session)) None
+  seat_here true x rest more same h = rw (same, eqb-true x session same) refl
+  seat_here false x rest more differ h = rw differ h
+
+  seat_among : (xs : List ℕ) → find (is_of session) (map (seat_of past) xs) ≡ cond (list_any (λ other. nat_eq other session) xs) (Some (seat_of past session)) None
+  seat_among [] = refl
+  seat_among (x ∷ xs) = seat_here (nat_eq x session) x (find (is_of session) (map (seat_of past) xs)) (list_any (λ other. nat_eq other session) xs) refl (seat_among xs)
+
+  pub seat_live : find (is_of session) (seats_of past) ≡ cond (is_live past session) (Some (seat_of past session)) None
+  unfolding seats_of
+  seat_live = seat_among (live past)
+
   params_here : (b : Bool) (x : ℕ) (rest : Option Seat) (more : Bool) → nat_eq x session ≡ b → option_and_then (λ (seat : Seat). seat.params) rest ≡ cond more (params_of past session) None
       → option_and_then (λ (seat : Seat). seat.params) (cond (nat_eq x session) (Some (seat_of past x)) rest) ≡ cond (nat_eq x session || more) (params_of past session) None
   params_here true x rest more same h = rw (same, eqb-true x session same) refl

@@ -3,11 +3,11 @@
 //! A session sets its parameters once. All live sessions that have set theirs have the same ones.
 #![tactic(auto)]
 
-ghost use Rattle.std.specs.Prelude.{◌≡◌, true, ◌++◌, ◌∷◌, [], List, length, not, filter, find, OnOk, OnErr, IsTrue, Some, None};
+ghost use Rattle.std.specs.Prelude.{◌≡◌, true, ◌++◌, ◌∷◌, [], List, length, not, filter, find, OnOk, OnErr, IsTrue, Some, None, if◌then◌else◌};
 ghost use Rattle.table_model.specs.Event.{Event};
 ghost use Rattle.table_model.specs.Reply.{reply_params};
 ghost use Rattle.table_model.specs.Sessions as history;
-ghost use Rattle.session_params.specs.Book.{StandsFor, set_reply, began, asked_for, left};
+ghost use Rattle.session_params.specs.Book.{StandsFor, seat_of, set_reply, began, asked_for, left};
 ghost use Rattle.session_params.specs.Rows.{is_of, is_entered, params_in, differing_in, seat_with, with_params};
 ghost use Rattle.session_params.specs.Ends.{set_end, seats_after};
 
@@ -87,6 +87,14 @@ impl ParamBook {
         ensures stands { (past : List Event) → StandsFor self.now past → history.is_live past session ≡ true → result ≡ history.params_of past session }
     {
         params_among(&self.seats, session)
+    }
+
+    /// The session with its parameters, if it was entered and hasn't left since.
+    pub fn seat(&self, session: u64) -> Option<Seat>
+        ensures found { result ≡ find (is_of session) self.now }
+        ensures stands { (past : List Event) → StandsFor self.now past → result ≡ (if history.is_live past session then Some (seat_of past session) else None) }
+    {
+        seat_of(&self.seats, session)
     }
 
     /// A session asks for parameters, which it may do once, and which must be those of the others.

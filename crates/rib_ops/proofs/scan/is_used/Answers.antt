@@ -1,12 +1,12 @@
-use Rattle.std.proofs.Common.{sym, ◌∙◌}
-use Rattle.aft_entries.specs.References.{refers}
-use Rattle.table_model.specs.Table.{used}
-use Rattle.rib_ops.proofs.Scans.{scan_more, scan_found}
+use Rattle.std.proofs.Common.{sym, ap}
+use Rattle.rib_ops.proofs.Unreferred.{is_referable, never_used}
 use Rattle.rib_ops.proofs.scan.is_used.Goals as goal
 
-pub returns-then-refers : goal.returns-then-refers
-unfolding used
-returns-then-refers c = sym (scan_found (λ e. refers e c.args.key.now) _ _ _ c.at.ensures (sym c.refers.ensures ∙ c.if-refers.true))
+pub returns-in-V4 : goal.returns-in-V4
+returns-in-V4 c = sym (never_used c.args.key.now (ap is_referable c.in-V4.is) c.args.store.now.entries)
 
-pub loop-n-preserved : goal.loop-n-preserved
-loop-n-preserved c = scan_more (λ e. refers e c.args.key.now) _ _ _ c.at.ensures c.loop-n.invariant (sym c.refers.ensures ∙ c.if-refers.false)
+pub returns-in-V6 : goal.returns-in-V6
+returns-in-V6 c = sym (never_used c.args.key.now (ap is_referable c.in-V6.is) c.args.store.now.entries)
+
+pub returns-in-Label : goal.returns-in-Label
+returns-in-Label c = sym (never_used c.args.key.now (ap is_referable c.in-Label.is) c.args.store.now.entries)
