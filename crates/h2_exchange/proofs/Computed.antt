@@ -117,6 +117,6 @@ sent_frames = record {
   credit = may.credits 30 refl (omega arith) (omega arith);
   stream_credit = may.credits_stream 1 30 refl (omega arith) refl (omega arith);
   response = may.carries refl refl;
-  reset = may.resets_error asked head code.PROTOCOL_ERROR refl refl refl refl;
+  reset = may.resets_error (asked, head, code.PROTOCOL_ERROR, refl, refl, refl, refl);
   goaway = may.goes_away code.PROTOCOL_ERROR (inl (81, inl refl)) refl;
 }

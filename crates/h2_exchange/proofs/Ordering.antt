@@ -1,5 +1,5 @@
 -- How the order of an exchange lasts.
-use Rattle.std.proofs.Common.{◌≡◌, ◌⊎◌, ℕ, ◌<◌, ◌≤◌, List, [], ◌∷◌, ◌++◌, length, refl, sym, ap, subst, ◌∙◌, arith, inl, inr, append_assoc, sum_by}
+use Rattle.std.proofs.Common.{◌≡◌, ◌⊎◌, ℕ, ◌<◌, ◌≤◌, List, [], ◌∷◌, ◌++◌, length, refl, sym, ap, ◌∙◌, arith, inl, inr, append_assoc, sum_by}
 use Rattle.std.specs.List.{flat_map}
 use Rattle.std.proofs.lemmas.List.{append-nil, length-append}
 use Rattle.std.proofs.lemmas.List.Concat.{flat_map-append}
@@ -7,9 +7,8 @@ use Rattle.std.proofs.lemmas.List.Sums.{sum_by-append}
 use Rattle.h2_frames.specs.declared.frame.Frame.{Frame}
 use Rattle.h2_frames.specs.Layout.{frame_text, size_of}
 use Rattle.h2_exchange.specs.declared.role.Role.{Role}
-use Rattle.h2_exchange.specs.Grows.{GoesOn, Keeps, IsJoined}
 use Rattle.h2_exchange.specs.Exchange.{Step, Received, received_of, sent_of, received, sent, sent_text}
-use Rattle.h2_exchange.specs.Order.{Piece, Got, Put, got_of, put_of, gots, puts, end_of, due_from_peer, due_from_self, InOrder}
+use Rattle.h2_exchange.specs.Order.{Piece, got_of, put_of, gots, puts, end_of, due_from_peer, due_from_self, InOrder}
 
 -- ---- lists that are cut in two ways
 
@@ -104,45 +103,3 @@ order_more role ps x more placed order early late before behind f split cell lt 
         length-append (due_from_self role) (sent_text before),
       )
     ]
-
--- ---- what a connection stands for, while it is used
-
-module _ {C : Type 0} (stands : C → List ℕ → List ℕ → List Step → Type 0) where
-  pub goes_nowhere : (c : C) → GoesOn stands c c
-  goes_nowhere c fed dropped x h = ([], subst (stands c fed dropped) (sym (append-nil x)) h)
-
-  pub goes_further : (a b c : C) → GoesOn stands a b → GoesOn stands b c → GoesOn stands a c
-  goes_further a b c p q fed dropped x h =
-      let m = p fed dropped x h in
-      let n = q fed dropped (x ++ m.0) m.1 in
-      (m.0 ++ n.0, subst (stands c fed dropped) (append_assoc x m.0 n.0) n.1)
-
-  -- where received frames end within what was fed, and what was sent is what was dropped and what waits
-  module _ (role : Role) (output : C → List ℕ)
-      (within : (c : C) (fed dropped : List ℕ) (x : List Step) → stands c fed dropped x → 0 < length (received x) → end_of (due_from_peer role) (received x) ≤ length fed)
-      (text : (c : C) (fed dropped : List ℕ) (x : List Step) → stands c fed dropped x → due_from_self role ++ sent_text x ≡ dropped ++ output c) where
-    -- further frames
-    pub joined_more : (old new : C) (ps : List Piece) → GoesOn stands old new → (x : List Step) → IsJoined stands role old ps x → (more : List Step) × IsJoined stands role new ps (x ++ more)
-    joined_more old new ps g x j =
-        let m = g (gots ps) (puts ps) x j.same in
-        (m.0, record { same = m.1; order = order_more role ps x m.0 (omega (arith, ap length (text old (gots ps) (puts ps) x j.same), length-append (puts ps) (output old))) j.order })
-
-    -- bytes that were read and fed
-    pub joined_got : (old new : C) (ps : List Piece) (bytes : List ℕ) → Keeps stands old new bytes [] → (x : List Step) → IsJoined stands role old ps x → IsJoined stands role new (ps ++ Got bytes ∷ []) x
-    joined_got old new ps bytes k x j =
-        let a : gots (ps ++ Got bytes ∷ []) ≡ gots ps ++ bytes = flat_map-append got_of ps (Got bytes ∷ []) ∙ ap (λ (b : List ℕ). gots ps ++ b) (append-nil bytes) in
-        let b : puts (ps ++ Got bytes ∷ []) ≡ puts ps ++ [] = flat_map-append put_of ps (Got bytes ∷ []) in
-        record {
-          same = subst (λ (f : List ℕ). stands new f (puts (ps ++ Got bytes ∷ [])) x) (sym a) (subst (λ (d : List ℕ). stands new (gots ps ++ bytes) d x) (sym b) (k (gots ps) (puts ps) x j.same));
-          order = order_told role ps (Got bytes) x (within old (gots ps) (puts ps) x j.same) j.order;
-        }
-
-    -- bytes that were placed and dropped
-    pub joined_put : (old new : C) (ps : List Piece) (bytes : List ℕ) → Keeps stands old new [] bytes → (x : List Step) → IsJoined stands role old ps x → IsJoined stands role new (ps ++ Put bytes ∷ []) x
-    joined_put old new ps bytes k x j =
-        let a : gots (ps ++ Put bytes ∷ []) ≡ gots ps ++ [] = flat_map-append got_of ps (Put bytes ∷ []) in
-        let b : puts (ps ++ Put bytes ∷ []) ≡ puts ps ++ bytes = flat_map-append put_of ps (Put bytes ∷ []) ∙ ap (λ (d : List ℕ). puts ps ++ d) (append-nil bytes) in
-        record {
-          same = subst (λ (f : List ℕ). stands new f (puts (ps ++ Put bytes ∷ [])) x) (sym a) (subst (λ (d : List ℕ). stands new (gots ps ++ []) d x) (sym b) (k (gots ps) (puts ps) x j.same));
-          order = order_told role ps (Put bytes) x (within old (gots ps) (puts ps) x j.same) j.order;
-        }

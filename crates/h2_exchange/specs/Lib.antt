@@ -6,7 +6,6 @@ pub mod Events
 pub mod Examples
 pub mod Exchange
 pub mod Frames
-pub mod Grows
 pub mod Laws
 pub mod Malformed
 pub mod Order

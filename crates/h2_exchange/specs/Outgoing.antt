@@ -24,6 +24,12 @@ EndsWith role limits heads bytes x rest why =
     ((place : ℕ) × IsBroken role limits heads bytes x rest why place)
     ⊎ ((cause : CalmCause) × IsCalm role limits heads x cause × (why ≡ code.ENHANCE_YOUR_CALM))
 
+-- the RST_STREAM of a stream error, right behind its frame
+abbrev pub IsErrorReset : Role → H2Limits → List Outcome → List Step → Frame → Type 0
+IsErrorReset role limits heads past f =
+    (before : List Step) × (g : Frame) × (why : ErrorCode) × (past ≡ before ++ Received g ∷ []) × (stop_of role limits heads past ≡ None)
+    × (stream_error role limits heads before g ≡ Some why) × (frame_text f ≡ reset_text (stream_of g) why)
+
 -- A frame that may be sent behind these ones, where these resets are asked for, and these bytes were received, with this
 -- rest that is no whole frame.
 pub data MaySend (role : Role) (limits : H2Limits) (heads : List Outcome) (is_asked : List Step → ℕ → ErrorCode → Bool) (bytes rest : List ℕ) (past : List Step) (f : Frame) : Type 0 where
@@ -35,8 +41,8 @@ pub data MaySend (role : Role) (limits : H2Limits) (heads : List Outcome) (is_as
   credits : (n : ℕ) → frame_text f ≡ update_text 0 n → 0 < n → 65535 + granted_on 0 (sent past) + n ≤ limits.window + spent (received past) → MaySend role limits heads is_asked bytes rest past f
   -- credit for a live stream, up to the whole window
   credits_stream : (id n : ℕ) → frame_text f ≡ update_text id n → 0 < n → is_live role past id ≡ true → granted_on id (sent past) + n ≤ spent_on id (received past) → MaySend role limits heads is_asked bytes rest past f
-  -- the reset of a stream error, right behind its frame
-  resets_error : (before : List Step) (g : Frame) (why : ErrorCode) → past ≡ before ++ Received g ∷ [] → stop_of role limits heads past ≡ None → stream_error role limits heads before g ≡ Some why → frame_text f ≡ reset_text (stream_of g) why → MaySend role limits heads is_asked bytes rest past f
+  -- the reset of a stream error
+  resets_error : IsErrorReset role limits heads past f → MaySend role limits heads is_asked bytes rest past f
   -- a reset that is asked for, of a live stream
   resets : (id : ℕ) (why : ErrorCode) → is_live role past id ≡ true → is_asked past id why ≡ true → frame_text f ≡ reset_text id why → MaySend role limits heads is_asked bytes rest past f
   -- HEADERS of a new stream

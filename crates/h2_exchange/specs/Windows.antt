@@ -43,13 +43,11 @@ granted_on id fs = sum_by (λ f. if is_window_update f && stream_of f == id then
 abbrev pub stream_window : List Step → ℕ → ℤ
 stream_window x id = pos (initial_window (received x) + granted_on id (received x)) -ℤ pos (spent_on id (sent x))
 
-abbrev pub connection_window : List Step → ℤ
-connection_window x = pos (65535 + granted_on 0 (received x)) -ℤ pos (spent (sent x))
-
 -- the same, where a window below zero has no room
 abbrev pub stream_room : List Step → ℕ → ℕ
 stream_room x id = initial_window (received x) + granted_on id (received x) - spent_on id (sent x)
 
+-- and on all streams together
 abbrev pub connection_room : List Step → ℕ
 connection_room x = 65535 + granted_on 0 (received x) - spent (sent x)
 

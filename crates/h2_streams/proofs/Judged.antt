@@ -17,10 +17,9 @@ use Rattle.h2_exchange.specs.Rules.{breaks_start, breaks_block_on, breaks_number
 use Rattle.h2_exchange.specs.Streams.{of_client, highest, begun, is_live, live}
 use Rattle.h2_exchange.specs.Windows.{settings_of, granted_on, spent_on, spent, initial_window}
 use Rattle.h2_streams.specs.Live.{is_raised, is_raising}
-use Rattle.h2_streams.specs.Set.{Set, at}
+use Rattle.h2_streams.specs.Set.{Set}
 use Rattle.h2_exchange.specs.StreamErrors.{live_error, overfills_stream}
-use Rattle.h2_streams.specs.Judging.{shape_error_in, window_error_in, frame_error_in, live_error_in, stream_error_at}
-use Rattle.h2_streams.proofs.Standing.{at_is}
+use Rattle.h2_streams.specs.Judging.{shape_error_in, window_error_in, frame_error_in, live_error_in}
 use Rattle.h2_streams.specs.Stands.{stream_at, StandsFor}
 
 -- ---- a WINDOW_UPDATE that no rule on its shape bars has four bytes
@@ -87,7 +86,7 @@ overfills send used granted inc e = grind (arith, nat_tests)
 raised_same : (size used granted : ℕ) → used < 2147483648 + granted → nat_lt 4294967295 (size + (2147483648 + granted - used)) ≡ nat_lt (2147483647 + used) (size + granted)
 raised_same size used granted lt = grind (arith, nat_tests)
 
-any_same : {A : Type 0} (p q : A → Bool) (xs : List A) → ((a : A) → p a ≡ q a) → list_any p xs ≡ list_any q xs
+pub any_same : {A : Type 0} (p q : A → Bool) (xs : List A) → ((a : A) → p a ≡ q a) → list_any p xs ≡ list_any q xs
 any_same p q [] e = refl
 any_same p q (x ∷ xs) e = ap (λ (t : Bool). t || list_any p xs) (e x) ∙ ap (λ (t : Bool). q x || t) (any_same p q xs e)
 
@@ -150,10 +149,3 @@ live_says s x f h alive =
     (ap (λ (i : ℕ). nat_lt 4294967295 (i + (stream_at s.limits x (stream_of f)).room + increment_of f)) h.initial_is ∙ overfills_one (initial_window (received x)) (spent_on (stream_of f) (sent x)) (granted_on (stream_of f) (received x)) (increment_of f) (h.covered (stream_of f) alive))
     ∙ ap (λ (d : Bool). five_rules (is_priority f && not (payload_length f == 5)) (is_window_update f && increment_of f == 0) (is_window_update f && overfills_stream x f) (is_data f && d) (is_data f && (stream_at s.limits x (stream_of f)).is_ended_there))
     (exceeds_one s.limits.window (spent_on (stream_of f) (received x)) (granted_on (stream_of f) (sent x)) (counted f) (h.within (stream_of f) alive))
-
-pub stream_says : (s : Set) (x : List Step) (f : Frame) (answer : Option ErrorCode) → answer ≡ stream_error_at s f (at (stream_of f) s) → StandsFor s x → answer ≡ (if is_live s.role x (stream_of f) then live_error s.limits x f else None)
-stream_says s x f answer e h = e ∙ ap (stream_error_at s f) (at_is s x h (stream_of f)) ∙ by (is_live s.role x (stream_of f)) refl
-  where
-    by : (t : Bool) → is_live s.role x (stream_of f) ≡ t → stream_error_at s f (if t then Some (stream_at s.limits x (stream_of f)) else None) ≡ (if t then live_error s.limits x f else None)
-    by true alive = live_says s x f h alive
-    by false dead = refl

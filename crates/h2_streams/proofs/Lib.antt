@@ -21,3 +21,4 @@ pub mod Hears
 pub mod Taken
 pub mod SentBlocks
 pub mod Malformed
+pub mod Raises

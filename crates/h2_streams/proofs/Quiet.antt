@@ -1,23 +1,19 @@
 -- A set stands for its exchange behind a sent frame that changes nothing.
 use Rattle.std.proofs.Common.{◌≡◌, inl, inr, ℕ, ◌+◌, Bool, true, false, not, ◌&&◌, List, [], ◌∷◌, ◌++◌, map, Option, Some, None, refl, sym, ap, ◌∙◌, arith, subst}
 use Rattle.std.specs.Prelude.{filter, option_map, length, ◌==◌, if◌then◌else◌}
-use Rattle.std.proofs.lemmas.List.{append-nil}
 use Rattle.h2_frames.specs.declared.frame.Frame.{Frame}
-use Rattle.h2_frames.specs.declared.frame.Frame.TheVariants.{Headers, Settings, Ping, GoAway}
+use Rattle.h2_frames.specs.declared.frame.Frame.TheVariants.{Settings, Ping, GoAway}
 use Rattle.h2_frames.specs.declared.frame.FrameBody.{FrameBody}
-use Rattle.h2_exchange.specs.declared.role.Role.{Role}
-use Rattle.h2_exchange.specs.declared.role.Role.TheVariants.{Client, Server}
 use Rattle.h2_exchange.specs.Blocks.{Block, block_with, open_block}
 use Rattle.h2_exchange.specs.Exchange.{Step, Sent, received, sent}
 use Rattle.h2_exchange.specs.Frames.{stream_of, is_window_update, increment_of, counted}
 use Rattle.h2_exchange.specs.Streams.{of_client, highest, begun, is_begun, is_live, is_reset, is_ended_by}
 use Rattle.h2_exchange.specs.Windows.{initial_window, granted_on, spent_on, spent}
-use Rattle.h2_exchange.proofs.Steps.{received_sent, sent_push, windows_add, begun_push, begun_list_push}
+use Rattle.h2_exchange.proofs.Steps.{received_sent, sent_push, windows_add}
 use Rattle.h2_streams.specs.declared.live.Stream.{Stream}
-use Rattle.h2_streams.specs.Laws.{ControlsAreQuiet, HeadsAreQuiet}
+use Rattle.h2_streams.specs.Laws.{ControlsAreQuiet}
 use Rattle.h2_streams.specs.Set.{Set}
 use Rattle.h2_streams.specs.Stands.{stream_at, StandsFor, is_on}
-use Rattle.h2_streams.proofs.Begins.{same_stream, no_reset}
 use Rattle.h2_streams.proofs.SentFrames.{or_false, plus_if_zero, nothing_new, begun_same, highest_same, stream_sent, reset_sent, live_by}
 
 same_cell : {A B : Type 0} (t : Bool) (g h : A → B) (x : A) (xs ys : List A) → h x ≡ g x → map h xs ≡ map g ys → map h (if t then x ∷ xs else xs) ≡ map g (if t then x ∷ ys else ys)
@@ -135,31 +131,3 @@ pub controls_are_quiet : ControlsAreQuiet
 controls_are_quiet s x b f (inl e) h = subst (λ (g : Frame). StandsFor s (x ++ Sent g ∷ [])) (sym e) (stays_standing s x (Settings b) h (settings_stay s x b h))
 controls_are_quiet s x b f (inr (inl e)) h = subst (λ (g : Frame). StandsFor s (x ++ Sent g ∷ [])) (sym e) (stays_standing s x (Ping b) h (ping_stays s x b h))
 controls_are_quiet s x b f (inr (inr e)) h = subst (λ (g : Frame). StandsFor s (x ++ Sent g ∷ [])) (sym e) (stays_standing s x (GoAway b) h (goaway_stays s x b h))
-
--- ---- a server's head
-
-server_begun : (role : Role) (x : List Step) (b : FrameBody) → role ≡ Server → (id : ℕ) → is_begun role (x ++ Sent (Headers b) ∷ []) id ≡ is_begun role x id
-server_begun Server x b e id = begun_push Server x (Sent (Headers b)) id ∙ or_false (is_begun Server x id) false refl
-server_begun Client x b e id = absurd cc
-
-server_list : (role : Role) (x : List Step) (b : FrameBody) → role ≡ Server → begun role (x ++ Sent (Headers b) ∷ []) ≡ begun role x
-server_list Server x b e = begun_list_push Server x (Sent (Headers b)) ∙ append-nil (begun Server x)
-server_list Client x b e = absurd cc
-
-server_highest : (role : Role) (x : List Step) (b : FrameBody) → role ≡ Server → highest (of_client role (x ++ Sent (Headers b) ∷ [])) ≡ highest (of_client role x)
-server_highest Server x b e = ap highest (received_sent x (Headers b))
-server_highest Client x b e = absurd cc
-
-pub heads_are_quiet : HeadsAreQuiet
-heads_are_quiet s x b server no-end h =
-    stays_standing s x (Headers b) h (
-    record {
-      streams = λ id. same_stream s.limits x b b.stream refl no-end id;
-      resets = λ id. no_reset s.limits x b b.stream refl no-end id;
-      begun_one = server_begun s.role x b server;
-      begun_all = server_list s.role x b server;
-      greatest = server_highest s.role x b server;
-      update = refl;
-      empty = refl;
-    }
-    )

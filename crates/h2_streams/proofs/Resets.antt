@@ -1,4 +1,4 @@
--- A set stands for its exchange behind an RST_STREAM that is sent on a live stream.
+-- A set stands for its exchange behind an RST_STREAM that is sent on a stream that was begun.
 use Rattle.std.proofs.Common.{◌≡◌, ℕ, ◌+◌, ◌<◌, ◌≤◌, Bool, true, false, not, ◌&&◌, ◌||◌, List, [], ◌∷◌, ◌++◌, map, refl, sym, ap, ◌∙◌, arith}
 use Rattle.std.specs.Prelude.{filter, option_map, length, ◌==◌}
 use Rattle.h2_frames.specs.declared.frame.Frame.{Frame}
@@ -8,7 +8,7 @@ use Rattle.h2_exchange.specs.declared.limits.H2Limits.{H2Limits}
 use Rattle.h2_exchange.specs.declared.role.Role.{Role}
 use Rattle.h2_exchange.specs.Blocks.{Block, open_block}
 use Rattle.h2_exchange.specs.Exchange.{Step, Sent, received, sent}
-use Rattle.h2_exchange.specs.Streams.{of_client, highest, begun, is_begun, is_live, is_over, is_reset, is_ended_by, live}
+use Rattle.h2_exchange.specs.Streams.{of_client, highest, begun, is_begun, is_live, is_reset, is_ended_by, live}
 use Rattle.h2_exchange.specs.Windows.{initial_window, granted_on, spent_on, spent}
 use Rattle.h2_exchange.proofs.Steps.{received_sent, sent_push, windows_add, begun_within}
 use Rattle.h2_streams.specs.Live.{without}
@@ -48,18 +48,14 @@ module _ (role : Role) (limits : H2Limits) (x : List Step) (b : FrameBody) where
       ap (λ (ids : List ℕ). map (stream_at limits after) (filter (is_live role after) ids)) (nothing_new role x (RstStream b) refl)
       ∙ without_is (is_live role x) (is_live role after) (stream_at limits x) (stream_at limits after) (λ id. refl) k (λ id f. (live_same k id e f, same_stream id)) (now_dead k e) (begun role x)
 
-front_true : (a b : Bool) → (a && b) ≡ true → a ≡ true
-front_true true b e = refl
-front_true false b e = absurd cc
-
 clash : (t : Bool) → t ≡ true → t ≡ false → ⊥
 clash t e f = cc
 
-pub resets : (s : Set) (x : List Step) (k : ℕ) (b : FrameBody) → StandsFor s x → is_live s.role x k ≡ true → b.stream ≡ k → StandsFor (dropped k s) (x ++ Sent (RstStream b) ∷ [])
-resets s x k b h alive on =
+pub resets : (s : Set) (x : List Step) (k : ℕ) (b : FrameBody) → StandsFor s x → is_begun s.role x k ≡ true → b.stream ≡ k → StandsFor (dropped k s) (x ++ Sent (RstStream b) ∷ [])
+resets s x k b h old on =
     let rs = received_sent x (RstStream b) in
     let ss = sent_push x (RstStream b) in
-    let low : k ≤ highest (of_client s.role x) = begun_within s.role x k (front_true (is_begun s.role x k) (not (is_over x k)) alive) in
+    let low : k ≤ highest (of_client s.role x) = begun_within s.role x k old in
     record {
       live_is = ap (without k) h.live_is ∙ sym (live_list s.role s.limits x b k on);
       highest_is = h.highest_is ∙ sym (highest_same s.role x (RstStream b) refl);

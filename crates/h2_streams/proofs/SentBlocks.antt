@@ -1,23 +1,24 @@
 -- A set stands for its exchange behind a sent frame of a header block.
-use Rattle.std.proofs.Common.{◌≡◌, ℕ, ◌+◌, ◌≤◌, Bool, true, false, not, ◌&&◌, ◌||◌, List, [], ◌∷◌, ◌++◌, map, Option, Some, None, refl, sym, ap, ◌∙◌, arith, subst}
-use Rattle.std.specs.Prelude.{filter, option_map, option_to_list, length, ◌==◌, if◌then◌else◌}
+use Rattle.std.proofs.Common.{◌≡◌, ◌⊎◌, inl, inr, ℕ, ◌+◌, ◌≤◌, max, Bool, true, false, not, ◌&&◌, ◌||◌, List, [], ◌∷◌, ◌++◌, map, Option, Some, None, refl, sym, ap, ◌∙◌, arith, subst}
+use Rattle.std.specs.Prelude.{filter, option_map, option_to_list, length, nat_lt, ◌==◌, if◌then◌else◌}
 use Rattle.std.specs.List.{list_any}
+use Rattle.std.proofs.lemmas.Bool.Decides.{nat_tests}
 use Rattle.std.proofs.lemmas.List.{append-nil}
 use Rattle.std.proofs.lemmas.List.Folds.{list_any-append}
 use Rattle.h2_frames.specs.declared.frame.Frame.{Frame}
 use Rattle.h2_frames.specs.declared.frame.Frame.TheVariants.{Content, Headers, Priority, RstStream, Settings, PushPromise, Ping, GoAway, WindowUpdate, Continuation, Unknown}
 use Rattle.h2_exchange.specs.declared.limits.H2Limits.{H2Limits}
 use Rattle.h2_exchange.specs.declared.role.Role.{Role}
-use Rattle.h2_exchange.specs.declared.role.Role.TheVariants.{Server}
+use Rattle.h2_exchange.specs.declared.role.Role.TheVariants.{Client, Server}
 use Rattle.h2_exchange.specs.Blocks.{Block, open_block, completed, blocks}
 use Rattle.h2_exchange.specs.Exchange.{Step, Sent, received, sent}
 use Rattle.h2_exchange.specs.Frames.{stream_of, is_data, is_headers, is_continuation, is_rst_stream, is_window_update, has_end_stream, increment_of, counted}
-use Rattle.h2_exchange.specs.Streams.{of_client, highest, begun, is_begun, is_over, is_live, is_open, is_reset, is_ended_by, is_last_on, live}
+use Rattle.h2_exchange.specs.Streams.{of_client, highest, is_odd, is_new, begins, begun, is_begun, is_over, is_live, is_open, is_reset, is_ended_by, is_last_on, live}
 use Rattle.h2_exchange.specs.Windows.{initial_window, granted_on, spent_on, spent}
 use Rattle.h2_exchange.proofs.Looking.{or_nothing}
-use Rattle.h2_exchange.proofs.Steps.{received_sent, sent_push, windows_add, blocks_add, begun_push, begun_list_push, begun_within}
+use Rattle.h2_exchange.proofs.Steps.{received_sent, sent_push, windows_add, blocks_add, begun_push, begun_list_push, begun_within, highest_push}
 use Rattle.h2_streams.specs.declared.live.Stream.{Stream}
-use Rattle.h2_streams.specs.Laws.{BlocksAreQuiet}
+use Rattle.h2_streams.specs.Laws.{BeginsNothing, BlocksAreQuiet}
 use Rattle.h2_streams.specs.Live.{replaced, without}
 use Rattle.h2_streams.specs.Set.{Set, dropped, ended_here, finished}
 use Rattle.h2_streams.specs.Stands.{stream_by, stream_at, StandsFor, is_on}
@@ -27,7 +28,7 @@ use Rattle.h2_streams.proofs.Lists.{replaced_is, without_is, self_eq, isnt, by_n
 use Rattle.h2_streams.proofs.Quiet.{stays_standing}
 use Rattle.h2_streams.proofs.ReceivedFrames.{StandsOn, last_of, ended_heard}
 use Rattle.h2_streams.proofs.Sends.{front_true, found_live}
-use Rattle.h2_streams.proofs.SentFrames.{made, same_made, or_false, nothing_new, begun_same, highest_same, reset_sent, live_by}
+use Rattle.h2_streams.proofs.SentFrames.{made, same_made, or_false, reset_sent, live_by}
 
 pub record IsPart (f : Frame) : Type 0 where
   pub no_data : is_data f ≡ false
@@ -56,25 +57,64 @@ and_off : (a b : Bool) → a ≡ false → (a && b) ≡ false
 and_off true b e = absurd cc
 and_off false b e = refl
 
-module _ (role : Role) (limits : H2Limits) (x : List Step) (f : Frame) (part : IsPart f) (old : is_headers f ≡ true → role ≡ Server) where
+-- ---- a frame that begins nothing
+
+third_off : (a b c : Bool) → c ≡ false → (a && b && c) ≡ false
+third_off true true c e = e
+third_off true false c e = refl
+third_off false b c e = refl
+
+not_above : (m n : ℕ) → n ≤ m → nat_lt m n ≡ false
+not_above m n le = grind (arith, nat_tests)
+
+max_stays : (t : Bool) (m n : ℕ) → (t ≡ true → n ≤ m) → (if t then max m n else m) ≡ m
+max_stays true m n le = omega (arith, le refl)
+max_stays false m n le = refl
+
+clients_low : (x : List Step) (f : Frame) → BeginsNothing Client x f → is_headers f ≡ true → stream_of f ≤ highest (sent x)
+clients_low x f old e = by (old e)
+  where
+    by : (Client ≡ Server) ⊎ (is_begun Client x (stream_of f) ≡ true) → stream_of f ≤ highest (sent x)
+    by (inl server) = absurd cc
+    by (inr begun) = begun_within Client x (stream_of f) begun
+
+nothing_begins : (x : List Step) (f : Frame) → BeginsNothing Client x f → is_new (sent x) f ≡ false
+nothing_begins x f old = by (is_headers f) refl
+  where
+    by : (t : Bool) → is_headers f ≡ t → (t && is_odd (stream_of f) && nat_lt (highest (sent x)) (stream_of f)) ≡ false
+    by true e = third_off true (is_odd (stream_of f)) (nat_lt (highest (sent x)) (stream_of f)) (not_above (highest (sent x)) (stream_of f) (clients_low x f old e))
+    by false e = refl
+
+one_begun : (role : Role) (x : List Step) (f : Frame) (id : ℕ) → BeginsNothing role x f → is_begun role (x ++ Sent f ∷ []) id ≡ is_begun role x id
+one_begun Server x f id old = begun_push Server x (Sent f) id ∙ or_false (is_begun Server x id) false refl
+one_begun Client x f id old =
+    begun_push Client x (Sent f) id
+    ∙ or_false (is_begun Client x id) (begins Client id x (Sent f)) (ap (λ (t : Bool). t && stream_of f == id || false) (nothing_begins x f old))
+
+all_begun : (role : Role) (x : List Step) (f : Frame) → BeginsNothing role x f → begun role (x ++ Sent f ∷ []) ≡ begun role x
+all_begun Server x f old = begun_list_push Server x (Sent f) ∙ append-nil (begun Server x)
+all_begun Client x f old =
+    begun_list_push Client x (Sent f) ∙ ap (λ (t : Bool). begun Client x ++ ((if t then stream_of f ∷ [] else []) ++ [])) (nothing_begins x f old)
+    ∙ append-nil (begun Client x)
+
+same_greatest : (role : Role) (x : List Step) (f : Frame) → BeginsNothing role x f → highest (of_client role (x ++ Sent f ∷ [])) ≡ highest (of_client role x)
+same_greatest Server x f old = ap highest (received_sent x f)
+same_greatest Client x f old =
+    ap highest (sent_push x f) ∙ highest_push (sent x) f
+    ∙ max_stays (is_headers f && is_odd (stream_of f)) (highest (sent x)) (stream_of f) (λ e. clients_low x f old (front_true (is_headers f) (is_odd (stream_of f)) e))
+
+module _ (role : Role) (limits : H2Limits) (x : List Step) (f : Frame) (part : IsPart f) (old : BeginsNothing role x f) where
   abbrev after : List Step
   after = x ++ Sent f ∷ []
 
-  if_server : (P : Role → Type 0) → P Server → (is_headers f ≡ false → P role) → P role
-  if_server P server other = by (is_headers f) refl
-    where
-      by : (t : Bool) → is_headers f ≡ t → P role
-      by true e = subst P (sym (old e)) server
-      by false e = other e
-
   begun_one : (id : ℕ) → is_begun role after id ≡ is_begun role x id
-  begun_one id = if_server (λ r. is_begun r after id ≡ is_begun r x id) (begun_push Server x (Sent f) id ∙ or_false (is_begun Server x id) false refl) (λ e. begun_same role x f id e)
+  begun_one id = one_begun role x f id old
 
   begun_all : begun role after ≡ begun role x
-  begun_all = if_server (λ r. begun r after ≡ begun r x) (begun_list_push Server x (Sent f) ∙ append-nil (begun Server x)) (λ e. nothing_new role x f e)
+  begun_all = all_begun role x f old
 
   greatest : highest (of_client role after) ≡ highest (of_client role x)
-  greatest = if_server (λ r. highest (of_client r after) ≡ highest (of_client r x)) (ap highest (received_sent x f)) (λ e. highest_same role x f e)
+  greatest = same_greatest role x f old
 
   resets : (id : ℕ) → is_reset after id ≡ is_reset x id
   resets id = reset_sent x f id ∙ or_false (is_reset x id) (is_rst_stream f && stream_of f == id) (and_off (is_rst_stream f) (stream_of f == id) part.no_reset)
@@ -141,7 +181,7 @@ blocks_are_quiet s x f part old quiet h =
 
 -- ---- a frame that ends its stream
 
-module _ (s : Set) (x : List Step) (f : Frame) (h : StandsFor s x) (open_here : is_open s.role x (stream_of f) ≡ true) (part : IsPart f) (old : is_headers f ≡ true → s.role ≡ Server)
+module _ (s : Set) (x : List Step) (f : Frame) (h : StandsFor s x) (open_here : is_open s.role x (stream_of f) ≡ true) (part : IsPart f) (old : BeginsNothing s.role x f)
     (on : StandsOn (open_block (sent x)) f) (ends : last_of (completed (sent x) f) ≡ true) where
   abbrev k : ℕ
   k = stream_of f
@@ -256,12 +296,15 @@ module _ (s : Set) (x : List Step) (f : Frame) (h : StandsFor s x) (open_here : 
       by false e = subst (λ (t : Set). StandsFor t over) (sym (finished_is false e)) (stands_by (replaced k (record was { is_ended_here = true }) s.live) (is_half e))
 
 -- a completed header block that ends its side
-pub finishes : (s : Set) (x : List Step) (f : Frame) (k : ℕ) (b : Block) → StandsFor s x → is_open s.role x k ≡ true → (is_headers f || is_continuation f) ≡ true → (is_headers f ≡ true → s.role ≡ Server) →
+pub finishes : (s : Set) (x : List Step) (f : Frame) (k : ℕ) (b : Block) → StandsFor s x → is_open s.role x k ≡ true → (is_headers f || is_continuation f) ≡ true →
     stream_of f ≡ k → completed (sent x) f ≡ Some b → b.stream ≡ k → b.last ≡ true → StandsFor (finished k s) (x ++ Sent f ∷ [])
-finishes s x f k b h open_here part old on whole same last =
+finishes s x f k b h open_here part on whole same last =
     subst (λ (n : ℕ). StandsFor (finished n s) (x ++ Sent f ∷ [])) on (
-    ends_with_block s x f h (ap (is_open s.role x) on ∙ open_here) (part_of f part) old (λ c e. ap (λ (d : Block). d.stream) (some_is c b (sym e ∙ whole)) ∙ same ∙ sym on) (ap last_of whole ∙ last)
+    ends_with_block s x f h (ap (is_open s.role x) on ∙ open_here) (part_of f part) (λ e. inr begun_here) (λ c e. ap (λ (d : Block). d.stream) (some_is c b (sym e ∙ whole)) ∙ same ∙ sym on) (ap last_of whole ∙ last)
     )
   where
     some_is : (c d : Block) → Some c ≡ Some d → c ≡ d
     some_is c d e = cc
+
+    begun_here : is_begun s.role x (stream_of f) ≡ true
+    begun_here = front_true (is_begun s.role x (stream_of f)) (not (is_over x (stream_of f))) (front_true (is_live s.role x (stream_of f)) (not (is_ended_by (sent x) (stream_of f))) (ap (is_open s.role x) on ∙ open_here))

@@ -1,6 +1,5 @@
 -- The settings of a payload, read six bytes after another.
-use Rattle.std.specs.List.{list_any}
-use Rattle.std.proofs.Common.{◌≡◌, ℕ, suc, ◌*◌, Bool, true, false, ◌||◌, ◌+◌, ◌<◌, ◌≤◌, List, [], ◌∷◌, length, drop, get_or, refl, sym, ap, ◌∙◌, arith}
+use Rattle.std.proofs.Common.{◌≡◌, ℕ, suc, ◌*◌, ◌+◌, ◌<◌, ◌≤◌, List, [], ◌∷◌, length, drop, get_or, refl, ap, ◌∙◌, arith}
 use Rattle.std.specs.Int.{w16, w32, from_be_bytes}
 use Rattle.std.proofs.lemmas.List.{length-drop}
 use Rattle.std.proofs.Math.Seq.{drop-cons}
@@ -36,17 +35,6 @@ no_setting (a ∷ b ∷ c ∷ d ∷ e ∷ f ∷ more) lt = absurd (omega arith)
 
 pub last_setting : (xs : List ℕ) (n : ℕ) → length xs < n + 6 → settings_of (drop n xs) ≡ []
 last_setting xs n lt = no_setting (drop n xs) (omega (arith, length-drop n xs))
-
--- a setting that fails a test leaves the later ones
-pub skips_setting : (test : ℕ × ℕ → Bool) (xs : List ℕ) (i : ℕ) (s : ℕ × ℕ) (all : Bool) → all ≡ list_any test (settings_of (drop (6 * i) xs)) → settings_of (drop (6 * i) xs) ≡ s ∷ settings_of (drop (6 * i + 6) xs) → test s ≡ false →
-    all ≡ list_any test (settings_of (drop (6 * (i + 1)) xs))
-skips_setting test xs i s all h e f =
-    let next : 6 * i + 6 ≡ 6 * (i + 1) = omega arith in
-    h ∙ ap (list_any test) e ∙ ap (λ (b : Bool). b || list_any test (settings_of (drop (6 * i + 6) xs))) f ∙ ap (λ (k : ℕ). list_any test (settings_of (drop k xs))) next
-
--- one that passes is found
-pub finds_setting : (test : ℕ × ℕ → Bool) (xs : List ℕ) (i : ℕ) (s : ℕ × ℕ) (all : Bool) → all ≡ list_any test (settings_of (drop (6 * i) xs)) → settings_of (drop (6 * i) xs) ≡ s ∷ settings_of (drop (6 * i + 6) xs) → test s ≡ true → true ≡ all
-finds_setting test xs i s all h e f = sym (h ∙ ap (list_any test) e ∙ ap (λ (b : Bool). b || list_any test (settings_of (drop (6 * i + 6) xs))) f)
 
 -- a setting may be the one that is sought, and is behind it
 pub passes_setting : (number : ℕ) (xs : List ℕ) (i first value : ℕ) (s : ℕ × ℕ) → first ≡ setting number value (settings_of (drop (6 * i) xs)) → settings_of (drop (6 * i) xs) ≡ s ∷ settings_of (drop (6 * i + 6) xs) →

@@ -1,5 +1,5 @@
 -- The connection error of a received frame, by what a set remembers.
-use Rattle.std.specs.Prelude.{◌+◌, ◌==◌, ◌&&◌, not, nat_lt, [], ◌∷◌, option_map, Option, Some, None}
+use Rattle.std.specs.Prelude.{◌+◌, ◌==◌, ◌&&◌, not, nat_lt, [], ◌∷◌, option_map, Option}
 use Rattle.std.specs.List.{list_any}
 use Rattle.std.specs.Option.{option_or}
 use Rattle.h2_frames.specs.declared.code.ErrorCode.{ErrorCode}
@@ -34,7 +34,3 @@ live_error_in s f stream = first_broken (
     ∷ (is_window_update f && nat_lt 4294967295 (s.initial + stream.room + increment_of f), code.FLOW_CONTROL_ERROR)
     ∷ (is_data f && nat_lt stream.receive (counted f), code.FLOW_CONTROL_ERROR)
     ∷ (is_data f && stream.is_ended_there, code.STREAM_CLOSED) ∷ [])
-
-abbrev pub stream_error_at : Set → Frame → Option Stream → Option ErrorCode
-stream_error_at s f None = None
-stream_error_at s f (Some stream) = live_error_in s f stream

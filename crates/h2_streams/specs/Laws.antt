@@ -3,16 +3,16 @@ use Rattle.std.specs.Prelude.{◌≡◌, true, false, ◌||◌, ◌⊎◌, List,
 use Rattle.h2_frames.specs.declared.code.ErrorCode.{ErrorCode}
 use Rattle.h2_frames.specs.declared.code.TheConstants.ErrorCode as code
 use Rattle.h2_frames.specs.declared.frame.Frame.{Frame}
-use Rattle.h2_frames.specs.declared.frame.Frame.TheVariants.{Headers, Settings, Ping, GoAway}
+use Rattle.h2_frames.specs.declared.frame.Frame.TheVariants.{Settings, Ping, GoAway}
 use Rattle.h2_frames.specs.declared.frame.FrameBody.{FrameBody}
 use Rattle.h2_exchange.specs.declared.limits.H2Limits.{H2Limits}
 use Rattle.h2_exchange.specs.declared.role.Role.{Role}
 use Rattle.h2_exchange.specs.declared.role.Role.TheVariants.{Server}
 use Rattle.h2_exchange.specs.Blocks.{Block, completed}
 use Rattle.h2_exchange.specs.Exchange.{Step, Sent, received, sent}
-use Rattle.h2_exchange.specs.Frames.{is_headers, is_continuation, has_end_stream}
+use Rattle.h2_exchange.specs.Frames.{stream_of, is_headers, is_continuation}
 use Rattle.h2_exchange.specs.StreamErrors.{stream_error_of}
-use Rattle.h2_exchange.specs.Streams.{is_live_at}
+use Rattle.h2_exchange.specs.Streams.{is_begun, is_live_at}
 use Rattle.h2_streams.specs.Set.{Set}
 use Rattle.h2_streams.specs.Stands.{StandsFor}
 
@@ -21,14 +21,14 @@ abbrev pub ControlsAreQuiet : Type 0
 ControlsAreQuiet =
     (s : Set) (x : List Step) (b : FrameBody) (f : Frame) → (f ≡ Settings b) ⊎ ((f ≡ Ping b) ⊎ (f ≡ GoAway b)) → StandsFor s x → StandsFor s (x ++ Sent f ∷ [])
 
--- a server's head that does not end its stream
-abbrev pub HeadsAreQuiet : Type 0
-HeadsAreQuiet = (s : Set) (x : List Step) (b : FrameBody) → s.role ≡ Server → has_end_stream (Headers b) ≡ false → StandsFor s x → StandsFor s (x ++ Sent (Headers b) ∷ [])
+-- HEADERS that begin no stream: a server's, and those on a stream that was begun
+abbrev pub BeginsNothing : Role → List Step → Frame → Type 0
+BeginsNothing role x f = is_headers f ≡ true → (role ≡ Server) ⊎ (is_begun role x (stream_of f) ≡ true)
 
--- a frame of a header block, which ends no stream: CONTINUATION, and HEADERS of a server
+-- a frame of a header block, which begins no stream and ends none: CONTINUATION, and such HEADERS
 abbrev pub BlocksAreQuiet : Type 0
 BlocksAreQuiet =
-    (s : Set) (x : List Step) (f : Frame) → (is_headers f || is_continuation f) ≡ true → (is_headers f ≡ true → s.role ≡ Server) → ((b : Block) → completed (sent x) f ≡ Some b → b.last ≡ false) → StandsFor s x →
+    (s : Set) (x : List Step) (f : Frame) → (is_headers f || is_continuation f) ≡ true → BeginsNothing s.role x f → ((b : Block) → completed (sent x) f ≡ Some b → b.last ≡ false) → StandsFor s x →
     StandsFor s (x ++ Sent f ∷ [])
 
 -- the code of a malformed header block, which is no longer refused for want of room, where it has this error otherwise

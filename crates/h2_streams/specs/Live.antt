@@ -1,5 +1,5 @@
 -- The list of live streams.
-use Rattle.std.specs.Prelude.{◌≡◌, ℕ, ◌+◌, ◌<◌, ◌==◌, ◌&&◌, Bool, true, false, not, List, ◌++◌, length, map, filter, find, nat_lt, [], ◌∷◌, Option, Some, None, if◌then◌else◌}
+use Rattle.std.specs.Prelude.{◌≡◌, ℕ, ◌+◌, ◌<◌, ◌==◌, ◌&&◌, Bool, true, false, not, List, ◌++◌, length, map, filter, find, nat_lt, max, fold, [], ◌∷◌, Option, Some, None, if◌then◌else◌}
 use Rattle.std.specs.List.{list_any}
 use Rattle.h2_exchange.specs.declared.role.Role.{Role}
 use Rattle.h2_exchange.specs.declared.role.Role.TheVariants.{Client, Server}
@@ -23,6 +23,13 @@ is_raised size s = nat_lt 4294967295 (size + s.room)
 -- a setting is an initial window that raises a live stream's window so
 abbrev pub is_raising : List Stream → ℕ × ℕ → Bool
 is_raising live s = s.0 == 4 && list_any (is_raised s.1) live
+
+-- the greatest initial window of some settings, and the greatest room of some streams, from one that is known on
+abbrev pub greatest_window : ℕ → List (ℕ × ℕ) → ℕ
+greatest_window most settings = fold (λ most s. if s.0 == 4 then max most s.1 else most) most settings
+
+abbrev pub greatest_room : ℕ → List Stream → ℕ
+greatest_room most live = fold (λ most s. max most s.room) most live
 
 -- the streams behind what becomes of one of them, or of a new one, which comes last
 abbrev pub settled : Bool → ℕ → Fate → List Stream → List Stream

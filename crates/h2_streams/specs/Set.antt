@@ -1,5 +1,5 @@
 -- What contracts see of a `StreamSet`.
-use Rattle.std.specs.Prelude.{ℕ, ◌+◌, ◌-◌, ◌==◌, Bool, true, false, not, min, find, List, [], ◌∷◌, ◌++◌, Option, Some, None, is_some, if◌then◌else◌}
+use Rattle.std.specs.Prelude.{ℕ, ◌+◌, ◌-◌, ◌==◌, Bool, true, false, not, min, find, List, [], ◌∷◌, ◌++◌, Option, Some, None, if◌then◌else◌}
 use Rattle.h2_exchange.specs.declared.limits.H2Limits.{H2Limits}
 use Rattle.h2_exchange.specs.declared.role.Role.{Role}
 use Rattle.h2_streams.specs.declared.live.Stream.{Stream}
@@ -51,9 +51,6 @@ ended_here id s (Some stream) =
 
 abbrev pub finished : ℕ → Set → Set
 finished id s = ended_here id s (at id s)
-
-abbrev pub is_live_in : Option Stream → Bool
-is_live_in stream = is_some stream
 
 abbrev pub is_open_in : Option Stream → Bool
 is_open_in None = false

@@ -1,18 +1,13 @@
 //! Sent frames at which a set needs no call, and header blocks whose fields are malformed. Each law is the contract of a
 //! function that does nothing.
-ghost use Rattle.h2_streams.specs.Laws.{BlocksAreQuiet, ControlsAreQuiet, HeadsAreQuiet, MalformedBlocks};
+ghost use Rattle.h2_streams.specs.Laws.{BlocksAreQuiet, ControlsAreQuiet, MalformedBlocks};
 
 /// SETTINGS, PING and GOAWAY that are sent change nothing.
 pub fn controls_are_quiet()
     ensures { ControlsAreQuiet }
 {}
 
-/// HEADERS that a server sends and that do not end their stream change nothing.
-pub fn heads_are_quiet()
-    ensures { HeadsAreQuiet }
-{}
-
-/// CONTINUATION, and HEADERS of a server, that end no stream change nothing.
+/// CONTINUATION, HEADERS of a server, and HEADERS on a stream that was begun change nothing where they end no stream.
 pub fn blocks_are_quiet()
     ensures { BlocksAreQuiet }
 {}

@@ -1,13 +1,13 @@
 ghost use Rattle.std.specs.Prelude.{◌≡◌, ◌+◌, ◌^◌, ◌<◌, ◌≤◌, ◌||◌, Some, Err, List, [], ◌∷◌, ◌++◌, length, false, true, is_some, IfOk, OnErr};
-ghost use Rattle.h2_exchange.specs.declared.role.Role.TheVariants.{Client, Server};
+ghost use Rattle.h2_exchange.specs.declared.role.Role.TheVariants.{Client};
 ghost use Rattle.h2_frames.specs.declared.frame.Frame.{Frame};
 ghost use Rattle.h2_frames.specs.declared.frame.Frame.TheVariants.{Content, Headers, RstStream, WindowUpdate};
 ghost use Rattle.h2_frames.specs.declared.frame.FrameBody.{FrameBody};
-ghost use Rattle.h2_exchange.specs.declared.fault.SendFault.TheVariants.{IdsSpent};
+ghost use Rattle.h2_exchange.specs.declared.fault.SendFault.TheVariants.{IdsSpent, NotOpen};
 ghost use Rattle.h2_exchange.specs.Exchange.{Step, Sent, sent};
 ghost use Rattle.h2_exchange.specs.Blocks.{Block, completed};
 ghost use Rattle.h2_exchange.specs.Frames.{stream_of, is_headers, is_continuation, has_end_stream, increment_of};
-ghost use Rattle.h2_exchange.specs.Streams.{highest, is_live, is_open};
+ghost use Rattle.h2_exchange.specs.Streams.{highest, is_begun, is_live, is_open};
 ghost use Rattle.h2_exchange.specs.Windows as windows;
 ghost use Rattle.h2_streams.specs.Set.{Set, fresh, at, is_open_in, begun, next_id, dropped, finished, room_of, spent, credited, credited_on, receive_in};
 ghost use Rattle.h2_streams.specs.Stands.{StandsFor};
@@ -125,6 +125,7 @@ impl StreamSet {
         ensures exact { IfOk result (λ id. (id ≡ next_id self.old.highest) × (self.new ≡ begun id self.old)) }
         ensures err { OnErr result (self.new ≡ self.old) }
         ensures fits { IfOk result (λ id. id < 2 ^ 31) }
+        ensures refused { result ≡ Err NotOpen → ⊥ }
         ensures role { self.new.role ≡ self.old.role }
         ensures stands { IfOk result (λ id. (x : List Step) (b : FrameBody) → StandsFor self.old x → b.stream ≡ id →
             has_end_stream (Headers b) ≡ false → StandsFor self.new (x ++ Sent (Headers b) ∷ [])) }
@@ -138,6 +139,7 @@ impl StreamSet {
         ensures ok { IfOk result (λ id. (id ≡ next_id self.old.highest) × (self.new ≡ begun id self.old)) }
         ensures err { OnErr result (self.new ≡ self.old) }
         ensures fits { IfOk result (λ id. id < 2 ^ 31) }
+        ensures refused { result ≡ Err NotOpen → ⊥ }
         ensures role { self.new.role ≡ self.old.role }
         ensures spent { result ≡ Err IdsSpent → 2147483645 < self.old.highest }
     {
@@ -165,8 +167,8 @@ impl StreamSet {
             b.stream ≡ stream → length b.payload ≤ room_of before (at stream before) → has_end_stream (Content b) ≡ true →
             self.old ≡ spent stream (length b.payload) before → StandsFor self.new (x ++ Sent (Content b) ∷ []) }
         ensures trailers { (x : List Step) (f : Frame) (b : Block) → StandsFor self.old x → is_open self.old.role x stream ≡ true →
-            (is_headers f || is_continuation f) ≡ true → (is_headers f ≡ true → self.old.role ≡ Server) → stream_of f ≡ stream →
-            completed (sent x) f ≡ Some b → b.stream ≡ stream → b.last ≡ true → StandsFor self.new (x ++ Sent f ∷ []) }
+            (is_headers f || is_continuation f) ≡ true → stream_of f ≡ stream → completed (sent x) f ≡ Some b → b.stream ≡ stream →
+            b.last ≡ true → StandsFor self.new (x ++ Sent f ∷ []) }
     {
         self.end_here(stream);
     }
@@ -192,7 +194,7 @@ impl StreamSet {
     /// Ends a live stream at once, and leaves any other as it is.
     pub fn reset(&mut self, stream: u32)
         ensures exact { self.new ≡ dropped stream self.old }
-        ensures stands { (x : List Step) (b : FrameBody) → StandsFor self.old x → is_live self.old.role x stream ≡ true →
+        ensures stands { (x : List Step) (b : FrameBody) → StandsFor self.old x → is_begun self.old.role x stream ≡ true →
             b.stream ≡ stream → StandsFor self.new (x ++ Sent (RstStream b) ∷ []) }
     {
         self.drop_stream(stream);

@@ -1,9 +1,9 @@
 //! The settings of a payload.
-ghost use Rattle.std.specs.Prelude.{◌≡◌, ◌+◌, ◌≤◌, ◌==◌, ◌∷◌, drop, length, if◌then◌else◌};
+ghost use Rattle.std.specs.Prelude.{◌≡◌, ◌+◌, ◌≤◌, ◌==◌, ◌∷◌, drop, length, max, if◌then◌else◌};
 ghost use Rattle.std.specs.List.{list_any};
 ghost use Rattle.h2_exchange.specs.Rules as rule;
 ghost use Rattle.h2_exchange.specs.Windows.{setting, settings_of};
-ghost use Rattle.h2_streams.specs.Live.{is_raised, is_raising};
+ghost use Rattle.h2_streams.specs.Live.{greatest_room, greatest_window, is_raising};
 
 use crate::live::Stream;
 use h2_exchange::Role;
@@ -92,27 +92,42 @@ pub fn initial_window(first: u32, payload: &[u8]) -> u32
     value
 }
 
-fn any_raised(live: &[Stream], size: u32) -> bool
-    ensures { result ≡ list_any (is_raised size) live.now }
+fn larger_window(most: u32, setting: Setting) -> u32
+    ensures { result ≡ (if setting.number == 4 then max most setting.value else most) }
 {
-    live.iter().any(|stream| u64::from(size) + u64::from(stream.room) > 4_294_967_295)
+    if setting.number == INITIAL_WINDOW_SIZE {
+        most.max(setting.value)
+    } else {
+        most
+    }
 }
 
-fn raises(live: &[Stream], setting: Setting) -> bool
-    ensures { result ≡ is_raising live.now (setting.number, setting.value) }
+fn greatest_window(payload: &[u8]) -> u32
+    ensures { result ≡ greatest_window 0 (settings_of payload.now) }
 {
-    setting.number == INITIAL_WINDOW_SIZE && any_raised(live, setting.value)
+    let mut most = 0;
+    for i in 0..payload.len() / 6 {
+        let setting = setting_at(payload, 6 * i);
+        most = larger_window(most, setting);
+    }
+    most
+}
+
+fn greatest_room(live: &[Stream]) -> u32
+    ensures { result ≡ greatest_room 0 live.now }
+{
+    live.iter()
+        .fold(0, |most: u32, stream| most.max(stream.room))
 }
 
 /// Whether a setting raises the window of a live stream above its bound.
 pub fn raises_streams(live: &[Stream], payload: &[u8]) -> bool
     ensures { result ≡ list_any (is_raising live.now) (settings_of payload.now) }
 {
-    for i in 0..payload.len() / 6 {
-        let setting = setting_at(payload, 6 * i);
-        if raises(live, setting) {
-            return true;
-        }
+    if live.is_empty() {
+        return false;
     }
-    false
+    let window = greatest_window(payload);
+    let room = greatest_room(live);
+    u64::from(window) + u64::from(room) > 4_294_967_295
 }

@@ -1,17 +1,12 @@
 //! What a received frame breaks.
 ghost use Rattle.std.specs.Prelude.{◌≡◌, ◌%◌, ◌^◌, List, None, true, length, take, if◌then◌else◌};
 ghost use Rattle.std.specs.Int.{w32, from_be_bytes};
-ghost use Rattle.h2_exchange.specs.Exchange.{Step};
 ghost use Rattle.h2_exchange.specs.Frames as say;
 ghost use Rattle.h2_exchange.specs.Rules as rule;
-ghost use Rattle.h2_exchange.specs.StreamErrors.{live_error};
-ghost use Rattle.h2_exchange.specs.Streams.{is_live};
-ghost use Rattle.h2_streams.specs.Judging.{frame_error_in, live_error_in, shape_error_in, stream_error_at, window_error_in};
-ghost use Rattle.h2_streams.specs.Set.{at};
-ghost use Rattle.h2_streams.specs.Stands.{StandsFor};
+ghost use Rattle.h2_streams.specs.Judging.{frame_error_in, live_error_in, shape_error_in, window_error_in};
 
 use super::StreamSet;
-use crate::live::{self, Stream};
+use crate::live::Stream;
 use crate::{rules, settings};
 use h2_exchange::Role;
 use h2_frames::{ErrorCode, Frame};
@@ -75,13 +70,6 @@ impl StreamSet {
     }
 
     /// The connection error of a frame that is received next, the content of its header block apart.
-    pub fn connection_error(&self, frame: &Frame) -> Option<ErrorCode>
-        ensures exact { result ≡ frame_error_in self.now frame.now }
-        ensures stands { (x : List Step) → StandsFor self.now x → result ≡ rule.frame_error self.now.role x frame.now }
-    {
-        self.frame_error(frame)
-    }
-
     #[tactic(auto, using(crate::proofs::Judged::four_long))]
     pub(super) fn frame_error(&self, frame: &Frame) -> Option<ErrorCode>
         ensures { result ≡ frame_error_in self.now frame.now }
@@ -123,27 +111,6 @@ impl StreamSet {
                 }
             }
             _ => None,
-        }
-    }
-
-    /// The stream error of a frame that is received next and is no connection error, header blocks
-    /// apart.
-    pub fn stream_error(&self, frame: &Frame) -> Option<ErrorCode>
-        requires { say.is_window_update frame.now ≡ true → say.payload_length frame.now ≡ 4 }
-        ensures exact { result ≡ stream_error_at self.now frame.now (at (say.stream_of frame.now) self.now) }
-        ensures stands { (x : List Step) → StandsFor self.now x →
-            result ≡ (if is_live self.now.role x (say.stream_of frame.now) then live_error self.now.limits x frame.now else None) }
-    {
-        self.error_on(frame)
-    }
-
-    fn error_on(&self, frame: &Frame) -> Option<ErrorCode>
-        requires { say.is_window_update frame.now ≡ true → say.payload_length frame.now ≡ 4 }
-        ensures { result ≡ stream_error_at self.now frame.now (at (say.stream_of frame.now) self.now) }
-    {
-        match live::find(self.live.as_slice(), frame.body().stream) {
-            Some(stream) => self.live_error(frame, stream),
-            None => None,
         }
     }
 }

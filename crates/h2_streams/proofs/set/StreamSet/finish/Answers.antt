@@ -13,4 +13,4 @@ returns-clause-stands c =
 
 pub returns-clause-trailers : goal.returns-clause-trailers
 returns-clause-trailers c =
-    λ x f b h is part old on whole same last. subst (λ (s : Set). StandsFor s (x ++ Sent f ∷ [])) (sym c.end_here.ensures) (finishes c.args.self.now x f c.args.stream b h is part old on whole same last)
+    λ x f b h is part on whole same last. subst (λ (s : Set). StandsFor s (x ++ Sent f ∷ [])) (sym c.end_here.ensures) (finishes c.args.self.now x f c.args.stream b h is part on whole same last)
