@@ -10,6 +10,3 @@ pub use apply::apply_stream;
 pub use laws::answers_are_the_servers;
 pub use message_run::put_all;
 pub use session::Session;
-
-#[cfg(test)]
-mod tests;

@@ -7,6 +7,3 @@ mod words;
 
 pub use adapters::{Reading, Writing};
 pub use top::gribi_main;
-
-#[cfg(test)]
-mod tests;

@@ -13,6 +13,3 @@ mod stream;
 pub use answerer::{Answered, Answerer};
 pub use put::put_all;
 pub use stream::run;
-
-#[cfg(test)]
-mod tests;

@@ -9,6 +9,3 @@ mod orders;
 pub use answers::{Message, answer_of, append_answer};
 pub use ends::end_of;
 pub use orders::{Operations, Orders, Setting, find_single, read_operation, read_orders};
-
-#[cfg(test)]
-mod tests;
