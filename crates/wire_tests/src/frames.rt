@@ -16,12 +16,17 @@ const WRITTEN: &[u8] = b"\x00\x00\x00\x04\x00\x00\x00\x00\x00\
     \x00\x00\x02\x0a\x05\x00\x00\x00\x07ab\
     \x00\x00\x08\x06\x01\x00\x00\x00\x00\x01\x02\x03\x04\x05\x06\x07\x08";
 
-// Writes a frame that a reader gives, if it does.
 fn copy_frame(next: &FrameNext, text: &mut Vec<u8>) -> Result<(), AllocError> {
     match next {
         FrameNext::Frame(frame) => write_frame(frame, text),
         _ => Ok(()),
     }
+}
+
+// Writes a frame that a reader gives, if it does.
+fn copy_next(reader: &mut FrameReader, text: &mut Vec<u8>) -> Result<(), AllocError> {
+    let next = reader.next();
+    copy_frame(&next, text)
 }
 
 // Writes the frames, three at most, that a reader gives behind one more piece.
@@ -32,7 +37,7 @@ fn copy_frames(
 ) -> Result<(), AllocError> {
     reader.feed(piece)?;
     for _ in 0..4u8 {
-        copy_frame(&reader.next(), text)?;
+        copy_next(reader, text)?;
     }
     Ok(())
 }

@@ -46,22 +46,31 @@ fn a_client_begins_sends_and_finishes(rt: HostRuntime) -> Result<(), Fail> {
     Ok(())
 }
 
-// What a set answers at the next frame of a text: 0, or 1 with the stream or 2, each with a code.
+// What a set answers at a frame: 0, or 1 with the stream or 2, each with a code.
+fn take(set: &mut StreamSet, next: &FrameNext) -> (u8, u32, u32) {
+    let FrameNext::Frame(frame) = next else {
+        return (3, 0, 0);
+    };
+    match set.on_frame(frame) {
+        Ok(()) => (0, 0, 0),
+        Err(StreamFault::Stream(id, code)) => (1, id, code.0),
+        Err(StreamFault::Connection(code)) => (2, 0, code.0),
+    }
+}
+
+fn read(alloc: Global, text: &'static [u8]) -> Result<FrameNext, AllocError> {
+    let mut reader = FrameReader::new(alloc, false)?;
+    reader.feed(Bytes::from_static(text))?;
+    Ok(reader.next())
+}
+
 fn answer(
     alloc: Global,
     set: &mut StreamSet,
     text: &'static [u8],
 ) -> Result<(u8, u32, u32), AllocError> {
-    let mut reader = FrameReader::new(alloc, false)?;
-    reader.feed(Bytes::from_static(text))?;
-    let FrameNext::Frame(frame) = reader.next() else {
-        return Ok((3, 0, 0));
-    };
-    match set.on_frame(&frame) {
-        Ok(()) => Ok((0, 0, 0)),
-        Err(StreamFault::Stream(id, code)) => Ok((1, id, code.0)),
-        Err(StreamFault::Connection(code)) => Ok((2, 0, code.0)),
-    }
+    let next = read(alloc, text)?;
+    Ok(take(set, &next))
 }
 
 // The frames that a server of one stream receives, what it answers, and whether stream 9 is live then.
