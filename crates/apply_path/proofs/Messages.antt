@@ -1,19 +1,15 @@
 -- A message.
-use Rattle.std.proofs.Common.{◌≡◌, ℕ, ◌+◌, ◌≤◌, ◌^◌, List, [], ◌∷◌, ◌++◌, length, Option, Some, None, Err, refl, sym, ap, subst, ◌∙◌, ℤ, pos, arith}
-use Rattle.std.specs.Prelude.{is_none, ◌&&◌, if◌then◌else◌}
+use Rattle.std.proofs.Common.{◌≡◌, ℕ, ◌+◌, ◌≤◌, ◌^◌, List, [], ◌∷◌, ◌++◌, length, Option, Some, None, refl, sym, ap, subst, ◌∙◌, pos, arith}
 use Rattle.std.proofs.lemmas.List.{append-nil, length_push}
 use Rattle.schema_numbers.specs.Numbers.{Numbers}
 use Rattle.proto_schema.specs.declared.legal.MessageFault.{MessageFault}
 use Rattle.proto_schema.specs.declared.legal.MessageFault.TheVariants.{Wire, Utf8}
 use Rattle.proto_schema.specs.declared.legal.MessageFault.TheVariants as fault
-use Rattle.aft_messages.specs.Decodes.{Decodes}
 use Rattle.session_engine.specs.declared.orders.Setting.{Setting}
 use Rattle.session_engine.specs.declared.orders.Orders.{Orders}
-use Rattle.session_engine.specs.Orders.{commands_of, orders_of, only, single_in}
+use Rattle.session_engine.specs.Orders.{commands_of, orders_of}
 use Rattle.table_model.specs.declared.command.Command.{Command}
-use Rattle.table_model.specs.declared.command.Command.TheVariants.{Begin, Operate}
-use Rattle.table_model.specs.declared.command.Operation.{Operation}
-use Rattle.table_model.specs.declared.params.AskedParams.{AskedParams}
+use Rattle.table_model.specs.declared.command.Command.TheVariants.{Begin}
 use Rattle.table_model.specs.declared.command.Config.{Config}
 use Rattle.table_model.specs.Event.{Event}
 use Rattle.rib_core.specs.Core.{Core}
@@ -26,14 +22,13 @@ use Rattle.apply_path.specs.Serves.{Stood, Serves, Went, Ended, Does, behind, Un
 
 -- ---- a message that can't be read
 
-pub unread_appends : (s : Setting) (done : List (List ℕ)) (m : List ℕ) (f : MessageFault) (answer : Answered) (out : List ℕ) → Decodes {A = Orders} (Err f) (fault_of s m) (orders_of s m) → Unreads f answer
-    → Appends (apply_answering s done m) answer out out
+pub fault_appends : (s : Setting) (done : List (List ℕ)) (m : List ℕ) (f : MessageFault) (answer : Answered) (out : List ℕ) → fault_of s m ≡ Some f → Unreads f answer → Appends (apply_answering s done m) answer out out
 unfolding apply_answering
-unread_appends s done m (Wire place found) answer out e is =
+fault_appends s done m (Wire place found) answer out e is =
     rw is (ap (λ (x : Option MessageFault). fate_by x (series_at s (history s done) (length done + 1) m)) e, refl)
-unread_appends s done m (Utf8 place) answer out e is =
+fault_appends s done m (Utf8 place) answer out e is =
     rw is (ap (λ (x : Option MessageFault). fate_by x (series_at s (history s done) (length done + 1) m)) e, refl)
-unread_appends s done m fault.NoMemory answer out e is = rw is record { part = []; others = (apply_answering s done m).written; bytes_are = refl; appended = sym (append-nil out) }
+fault_appends s done m fault.NoMemory answer out e is = rw is record { part = []; others = (apply_answering s done m).written; bytes_are = refl; appended = sym (append-nil out) }
 
 pub unread_stands : (stands : List (List ℕ) → Type 0) (done : List (List ℕ)) (m : List ℕ) (f : MessageFault) (answer : Answered) → stands done → Unreads f answer → StandsAfter stands done m answer
 unread_stands stands done m (Wire place found) answer h is = rw is h
@@ -100,29 +95,6 @@ done_appends s old new count done m orders NoMemory before after h e os d =
     let fate = apply_is s done m e in
     let all = ap (λ (x : List Command). (series s.numbering (config_of s) (history s done) x).written) (fate_is s done m orders count e os h.count_is ∙ sym (append-nil cs)) ∙ b.1 in
     (record { part = k.part; others = b.0; bytes_are = ap (λ (x : Fate). x.written) fate ∙ all; appended = k.appended }, tt)
-
--- one operation and nothing else
-commands_single : (now : ℤ) (params : Option AskedParams) (election : Option ℕ) (operations : List Operation) (operation : Operation) → (if is_none params && is_none election then only operations else None) ≡ Some operation
-    → commands_of 0 now (record { params = params; election = election; operations = operations }) ≡ Operate 0 operation now ∷ []
-commands_single now None None [] operation e = cc
-commands_single now None None (o ∷ []) operation e = let same : o ≡ operation = cc in ap (λ (x : Operation). Operate 0 x now ∷ []) same
-commands_single now None None (o ∷ p ∷ ps) operation e = cc
-commands_single now None (Some id) operations operation e = cc
-commands_single now (Some asked) election operations operation e = cc
-
-pub single_appends : (s : Setting) (old new : Core) (count : ℕ) (done : List (List ℕ)) (m : List ℕ) (operation : Operation) (answer : Answered) (before after : List ℕ) → Serves s old count done
-    → fault_of s m ≡ None → single_in (orders_of s m) ≡ Some operation → Does s.numbering old new (Operate 0 operation (pos (count + 1)) ∷ []) answer before after
-    → Appends (apply_answering s done m) answer before after × StandsAfter (Serves s new (count + 1)) done m answer
-single_appends s old new count done m operation answer before after h e is d =
-    let orders = orders_of s m in
-    let cs = commands_single (pos (count + 1)) orders.params orders.election orders.operations operation is in
-    done_appends s old new count done m orders answer before after h e refl (subst (λ (x : List Command). Does s.numbering old new x answer before after) (sym cs) d)
-
-pub fault_appends : (s : Setting) (done : List (List ℕ)) (m : List ℕ) (f : MessageFault) (answer : Answered) (out : List ℕ) → fault_of s m ≡ Some f → Unreads f answer
-    → Appends (apply_answering s done m) answer out out
-fault_appends s done m (Wire place found) answer out e is = unread_appends s done m (Wire place found) answer out e is
-fault_appends s done m (Utf8 place) answer out e is = unread_appends s done m (Utf8 place) answer out e is
-fault_appends s done m fault.NoMemory answer out e is = unread_appends s done m fault.NoMemory answer out tt is
 
 -- before the first message
 pub serves_none : (s : Setting) (core : Core) (count : ℕ) → count ≡ length s.instances → Begun count core → Serves s core 0 []

@@ -1,5 +1,5 @@
 -- One command, and commands in a row.
-use Rattle.std.proofs.Common.{inl, inr, ◌≡◌, ℕ, suc, ◌+◌, ◌≤◌, ◌^◌, Bool, true, false, cond, List, [], ◌∷◌, ◌++◌, length, map, Option, Some, None, refl, sym, ap, subst, ◌∙◌, append_assoc, arith}
+use Rattle.std.proofs.Common.{inl, inr, ◌≡◌, ℕ, ◌≤◌, ◌^◌, Bool, true, false, cond, List, [], ◌∷◌, ◌++◌, Option, Some, None, refl, sym, ap, subst, ◌∙◌, append_assoc}
 use Rattle.std.specs.Prelude.{is_some, not, ◌&&◌, ◌==◌}
 use Rattle.std.proofs.lemmas.List.{append-nil}
 use Rattle.std.proofs.lemmas.List.Concat.{flat_map-cons}
@@ -7,7 +7,6 @@ use Rattle.schema_numbers.specs.Numbers.{Numbers}
 use Rattle.table_model.specs.declared.command.Command.{Command}
 use Rattle.table_model.specs.declared.command.Command.TheVariants.{Begin, SetParams, Announce, Operate, Collect, Leave, Flush, Select, Take, Report, Halt}
 use Rattle.table_model.specs.declared.command.Config.{Config}
-use Rattle.table_model.specs.declared.command.Operation.{Operation}
 use Rattle.table_model.specs.declared.reply.Reply.{Reply}
 use Rattle.table_model.specs.declared.reply.Reply.TheVariants as reply
 use Rattle.table_model.specs.Event.{Event, events, is_no_memory}
@@ -302,31 +301,38 @@ leaves config old new past given stood acts kept =
     let legal : IsAnswer new.config (events past) (record { command = Leave 0; reply = given }) = (acts past stood.stands).legal.0 in
     (stood_more config old new past (Leave 0) given stood kept (lack_not new.config (events past) given legal) acts).0
 
--- ---- operations, one after another
+-- ---- one after another
 
-map_push : {A B : Type 0} (f : A → B) (xs : List A) (x : A) → map f (xs ++ x ∷ []) ≡ map f xs ++ f x ∷ []
-map_push f [] x = refl
-map_push f (y ∷ ys) x = ap (λ (l : List _). f y ∷ l) (map_push f ys x)
+-- the first of them are done, and the others are to come
+pub record DoneSoFar (n : Numbers) (old now : Core) (all coming : List Command) (before after : List ℕ) : Type 0 where
+  pub done : List Command
+  pub does : Does n old now done GoesOn before after
+  pub parts : all ≡ done ++ coming
 
-map_join : {A B : Type 0} (f : A → B) (xs ys : List A) → map f (xs ++ ys) ≡ map f xs ++ map f ys
-map_join f [] ys = refl
-map_join f (x ∷ xs) ys = ap (λ (l : List _). f x ∷ l) (map_join f xs ys)
+pub none_done : (n : Numbers) (core : Core) (all coming : List Command) (text : List ℕ) → core.count ≤ 2 ^ 61 → coming ≡ all → DoneSoFar n core core all coming text text
+none_done n core all coming text few is = record { done = []; does = does_none n core text few; parts = sym is }
 
-pub operated : (n : Numbers) (old mid new : Core) (f : Operation → Command) (xs : List Operation) (x : Operation) (answer : Answered) (before between after : List ℕ) → Does n old mid (map f xs) GoesOn before between
-    → Does n mid new (f x ∷ []) answer between after → Does n old new (map f (xs ++ x ∷ [])) answer before after
-operated n old mid new f xs x answer before between after first second = rw map_push (does_more n old mid new (map f xs) (f x ∷ []) answer before between after first second)
+-- one more
+pub one_done : (n : Numbers) (old mid new : Core) (all coming others : List Command) (c : Command) (before between after : List ℕ) → DoneSoFar n old mid all coming before between → coming ≡ c ∷ others
+    → Does n mid new (c ∷ []) GoesOn between after → DoneSoFar n old new all others before after
+one_done n old mid new all coming others c before between after h first d = record {
+  done = h.done ++ c ∷ [];
+  does = does_more n old mid new h.done (c ∷ []) GoesOn before between after h.does d;
+  parts = h.parts ∙ ap (λ (x : List Command). h.done ++ x) first ∙ sym (append_assoc h.done (c ∷ []) others);
+}
 
-pub operated_all : (n : Numbers) (old mid new : Core) (f : Operation → Command) (xs : List Operation) (x : Operation) (rest all : List Operation) (answer : Answered) (before between after : List ℕ) → is_going answer ≡ false → all ≡ xs ++ x ∷ rest
-    → Does n old mid (map f xs) GoesOn before between → Does n mid new (f x ∷ []) answer between after → Does n old new (map f all) answer before after
-operated_all n old mid new f xs x rest all answer before between after stops is first second =
-    let shape : map f all ≡ map f (xs ++ x ∷ []) ++ map f rest = ap (map f) (is ∙ sym (append_assoc xs (x ∷ []) rest)) ∙ map_join f (xs ++ x ∷ []) rest in
-    rw shape (does_all n old new (map f (xs ++ x ∷ [])) (map f rest) answer before after stops (operated n old mid new f xs x answer before between after first second))
+-- the next ends them
+pub next_ends : (n : Numbers) (old mid new : Core) (all coming others : List Command) (c : Command) (answer : Answered) (before between after : List ℕ) → is_going answer ≡ false → DoneSoFar n old mid all coming before between
+    → coming ≡ c ∷ others → Does n mid new (c ∷ []) answer between after → Does n old new all answer before after
+next_ends n old mid new all coming others c answer before between after stops h first d =
+    let shape : all ≡ (h.done ++ c ∷ []) ++ others = h.parts ∙ ap (λ (x : List Command). h.done ++ x) first ∙ sym (append_assoc h.done (c ∷ []) others) in
+    rw shape (does_all n old new (h.done ++ c ∷ []) others answer before after stops (does_more n old mid new h.done (c ∷ []) answer before between after h.does d))
 
--- ---- what an iterator has left
+pub all_done : (n : Numbers) (old new : Core) (all coming : List Command) (before after : List ℕ) → DoneSoFar n old new all coming before after → coming ≡ [] → Does n old new all GoesOn before after
+all_done n old new all coming before after h none =
+    let shape : all ≡ h.done = h.parts ∙ ap (λ (x : List Command). h.done ++ x) none ∙ append-nil h.done in
+    rw shape h.does
 
-pub nothing_left : {A : Type 0} (xs : List A) → length xs ≡ 0 → xs ≡ []
-nothing_left [] e = refl
-nothing_left (x ∷ xs) e = absurd cc
-
-pub one_less : {A : Type 0} (x : A) (old new : List A) (before after : ℕ) → length old ≡ before → old ≡ x ∷ new → after + 1 ≡ before → length new ≡ after
-one_less x old new before after count is less = let more : length old ≡ suc (length new) = ap (λ (l : List _). length l) is in omega (arith, count, less, more)
+pub still_stands : (n : Numbers) (old new : Core) (all coming : List Command) (before after : List ℕ) → DoneSoFar n old new all coming before after → (config : Config) × (past : List Event) × Stood config old past
+    → (config : Config) × (past : List Event) × Stood config new past
+still_stands n old new all coming before after h stood = stands_on n old new h.done before after h.does stood

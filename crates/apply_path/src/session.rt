@@ -1,16 +1,16 @@
 ghost use Rattle.std.specs.Prelude.{◌≡◌, ◌+◌, ◌<◌, ◌≤◌, ◌^◌, ◌++◌, ◌∷◌, [], ℕ, List, length, map, pos, IfOk};
 ghost use Rattle.std.specs.Option.{option_map_or};
 ghost use Rattle.table_model.specs.Event.{Event, is_no_memory};
-ghost use Rattle.session_engine.specs.Orders.{commands_of};
+ghost use Rattle.session_engine.specs.Orders.{commands_of, operation_at, orders_of};
 ghost use Rattle.apply_path.specs.Fates.{config_of};
 ghost use Rattle.apply_path.specs.Serves.{Stood, Does, Unreads, Begun};
 
 use crate::step::do_command;
 use message_run::{Answered, Answerer};
-use proto_schema::MessageFault;
+use proto_schema::{MessageFault, MessageKind, first_fault};
 use rib_core::RibCore;
 use schema_numbers::Numbering;
-use session_engine::{Operations, Orders, Setting, find_single, read_operation, read_orders};
+use session_engine::{Setting, operations_in, read_asks, read_operation};
 use std::alloc::{AllocError, Global};
 use table_model::{AskedParams, Command, Config, Operation, Reply};
 
@@ -78,11 +78,41 @@ fn do_operation(
     do_command(alloc, n, core, command, true, id, now, message, out)
 }
 
+// Reads an operation, and does it.
+#[inline(always)]
+fn do_piece(
+    alloc: Global,
+    setting: &Setting,
+    core: &mut RibCore,
+    piece: &[u8],
+    number: u64,
+    message: &mut Vec<u8>,
+    out: &mut Vec<u8>,
+) -> Answered
+    requires number { number < 2 ^ 62 }
+    requires stood { (config : Config) × (past : List Event) × Stood config core.old past }
+    ensures { Does setting.now.numbering core.old core.new (Command.Operate 0 (operation_at setting.now piece.now) (pos number) ∷ []) result out.old.items out.new.items }
+{
+    match read_operation(alloc, setting, piece) {
+        Err(_) => Answered::NoMemory,
+        Ok(operation) => do_operation(
+            alloc,
+            &setting.numbering,
+            core,
+            operation,
+            number,
+            message,
+            out,
+        ),
+    }
+}
+
+// Does the operations of a request. Each is done before the next is read, so that no list of them takes memory.
 fn do_operations(
     alloc: Global,
-    n: &Numbering,
+    setting: &Setting,
     core: &mut RibCore,
-    operations: Operations,
+    request: &[u8],
     number: u64,
     message: &mut Vec<u8>,
     out: &mut Vec<u8>,
@@ -90,10 +120,11 @@ fn do_operations(
     requires number { number < 2 ^ 62 }
     requires stood { (config : Config) × (past : List Event) × Stood config core.old past }
     requires few { core.old.count ≤ 2 ^ 61 }
-    ensures { Does n.now core.old core.new (map (λ operation. Command.Operate 0 operation (pos number)) operations) result out.old.items out.new.items }
+    ensures { Does setting.now.numbering core.old core.new (map (λ operation. Command.Operate 0 operation (pos number)) (orders_of setting.now request.now).operations) result out.old.items out.new.items }
 {
-    for operation in operations.into_vec() {
-        match do_operation(alloc, n, core, operation, number, message, out) {
+    let mut pieces = operations_in(setting, request);
+    while let Some(piece) = pieces.next() {
+        match do_piece(alloc, setting, core, piece, number, message, out) {
             Answered::GoesOn => {}
             Answered::Ends(code) => return Answered::Ends(code),
             Answered::Unread(place) => return Answered::Unread(place),
@@ -125,16 +156,39 @@ fn do_first(
     }
 }
 
-// Lets operations go.
-fn discard(operations: Operations) {
-    let _ = operations;
+// The same of a request.
+fn do_asks(
+    alloc: Global,
+    setting: &Setting,
+    core: &mut RibCore,
+    request: &[u8],
+    message: &mut Vec<u8>,
+    out: &mut Vec<u8>,
+) -> Answered
+    requires stood { (config : Config) × (past : List Event) × Stood config core.old past }
+    requires few { core.old.count ≤ 2 ^ 61 }
+    ensures { Does setting.now.numbering core.old core.new (option_map_or (λ asked. Command.SetParams 0 asked ∷ []) (orders_of setting.now request.now).params [] ++ option_map_or (λ id. Command.Announce 0 id ∷ []) (orders_of setting.now request.now).election []) result out.old.items out.new.items }
+{
+    match read_asks(alloc, setting, request) {
+        Err(_) => Answered::NoMemory,
+        Ok((params, election)) => do_first(
+            alloc,
+            &setting.numbering,
+            core,
+            params,
+            election,
+            message,
+            out,
+        ),
+    }
 }
 
-fn do_orders(
+// Does what a request orders, that can be read.
+fn do_request(
     alloc: Global,
-    n: &Numbering,
+    setting: &Setting,
     core: &mut RibCore,
-    orders: Orders,
+    request: &[u8],
     number: u64,
     message: &mut Vec<u8>,
     out: &mut Vec<u8>,
@@ -142,27 +196,13 @@ fn do_orders(
     requires number { number < 2 ^ 62 }
     requires stood { (config : Config) × (past : List Event) × Stood config core.old past }
     requires few { core.old.count ≤ 2 ^ 61 }
-    ensures { Does n.now core.old core.new (commands_of 0 (pos number) orders) result out.old.items out.new.items }
+    ensures { Does setting.now.numbering core.old core.new (commands_of 0 (pos number) (orders_of setting.now request.now)) result out.old.items out.new.items }
 {
-    let Orders {
-        params,
-        election,
-        operations,
-    } = orders;
-    match do_first(alloc, n, core, params, election, message, out) {
-        Answered::GoesOn => do_operations(alloc, n, core, operations, number, message, out),
-        Answered::Ends(code) => {
-            discard(operations);
-            Answered::Ends(code)
-        }
-        Answered::Unread(place) => {
-            discard(operations);
-            Answered::Unread(place)
-        }
-        Answered::NoMemory => {
-            discard(operations);
-            Answered::NoMemory
-        }
+    match do_asks(alloc, setting, core, request, message, out) {
+        Answered::GoesOn => do_operations(alloc, setting, core, request, number, message, out),
+        Answered::Ends(code) => Answered::Ends(code),
+        Answered::Unread(place) => Answered::Unread(place),
+        Answered::NoMemory => Answered::NoMemory,
     }
 }
 
@@ -215,9 +255,7 @@ pub struct Session<'a> {
 
 impl<'a> Session<'a> {
     ghost use Rattle.std.specs.Prelude.{[]};
-    ghost use Rattle.apply_path.specs.Fates.{apply_answering};
     ghost use Rattle.apply_path.specs.Serves.{Serves};
-    ghost use Rattle.message_run.specs.Answering.{Appends, StandsAfter};
 
     /// A session that has begun, before any message.
     pub fn new(alloc: Global, setting: &'a Setting) -> Result<Session<'a>, AllocError>
@@ -233,34 +271,6 @@ impl<'a> Session<'a> {
             message: Vec::new(alloc),
         })
     }
-
-    // Does what the message orders, whatever that is.
-    #[inline(never)]
-    fn answer_orders(&mut self, message: &[u8], out: &mut Vec<u8>) -> Answered
-        requires { (done : List (List ℕ)) × Serves self.old.setting.now self.old.core self.old.count done × (length done < 2 ^ 61) }
-        ensures setting { self.new.setting.now ≡ self.old.setting.now }
-        ensures appends { (done : List (List ℕ)) → Serves self.old.setting.now self.old.core self.old.count done → length done < 2 ^ 61 →
-            Appends (apply_answering self.old.setting.now done message.now) result out.old.items out.new.items }
-        ensures stood { (done : List (List ℕ)) → Serves self.old.setting.now self.old.core self.old.count done → length done < 2 ^ 61 →
-            StandsAfter (Serves self.new.setting.now self.new.core self.new.count) done message.now result }
-    {
-        let setting = self.setting;
-        match read_orders(self.alloc, setting, message) {
-            Err(fault) => unread(fault),
-            Ok(orders) => {
-                self.count += 1;
-                do_orders(
-                    self.alloc,
-                    &setting.numbering,
-                    &mut self.core,
-                    orders,
-                    self.count,
-                    &mut self.message,
-                    out,
-                )
-            }
-        }
-    }
 }
 
 impl<'a> Answerer for Session<'a> {
@@ -275,24 +285,20 @@ impl<'a> Answerer for Session<'a> {
 
     fn answer(&mut self, message: &[u8], out: &mut Vec<u8>) -> Answered {
         let setting = self.setting;
-        match find_single(setting, message) {
-            Err(fault) => unread(fault),
-            Ok(None) => self.answer_orders(message, out),
-            Ok(Some(bytes)) => match read_operation(self.alloc, setting, bytes) {
-                Err(_) => Answered::NoMemory,
-                Ok(operation) => {
-                    self.count += 1;
-                    do_operation(
-                        self.alloc,
-                        &setting.numbering,
-                        &mut self.core,
-                        operation,
-                        self.count,
-                        &mut self.message,
-                        out,
-                    )
-                }
-            },
+        match first_fault(&setting.numbering, MessageKind::ModifyRequest, message) {
+            Some(fault) => unread(fault),
+            None => {
+                self.count += 1;
+                do_request(
+                    self.alloc,
+                    setting,
+                    &mut self.core,
+                    message,
+                    self.count,
+                    &mut self.message,
+                    out,
+                )
+            }
         }
     }
 

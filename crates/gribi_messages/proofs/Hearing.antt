@@ -1,13 +1,9 @@
 -- An operation's fields, heard one after another.
-use Rattle.std.proofs.Common.{◌≡◌, ℕ, List, [], ◌∷◌, ◌++◌, map, Option, Some, None, refl, ◌∙◌, sym, append_assoc}
+use Rattle.std.proofs.Common.{◌≡◌, ℕ, List, ◌∷◌, Option, Some, None, refl, ◌∙◌, sym}
 use Rattle.std.specs.List.{cons_option, last_or}
-use Rattle.std.specs.Option.{option_or, option_to_list}
-use Rattle.std.proofs.lemmas.List.{append-nil}
-use Rattle.schema_numbers.specs.Numbers.{Numbers}
-use Rattle.aft_entries.specs.declared.operation.RawOperation.{RawOperation}
+use Rattle.std.specs.Option.{option_or}
 use Rattle.proto_wire.specs.Fields.{Spot}
 use Rattle.proto_schema.specs.Words.{number_in, numbers, piece_in, pieces, member_in, members, joined_onto, chosen_after}
-use Rattle.gribi_messages.specs.Request.{operation_of}
 use Rattle.gribi_messages.specs.Heard.{joined_with, chosen_with}
 
 -- what was heard, and what the fields that are left say behind it, is what all fields say
@@ -54,31 +50,24 @@ hears id_number instance_number op_number election_number among id new_id instan
 
 pub ruleset heard = (hears)
 
--- the same of a request
-pub record IsRequestSoFar (n : Numbers) (operation_number params_number election_number : ℕ) (operations : List RawOperation) (params election : Option (List ℕ)) (rest all : List Spot) : Type 0 where
-  pub operations_heard : operations ++ map (operation_of n) (pieces operation_number rest) ≡ map (operation_of n) (pieces operation_number all)
+-- the same of what a request asks for
+pub record AreAsksSoFar (params_number election_number : ℕ) (params election : Option (List ℕ)) (rest all : List Spot) : Type 0 where
   pub params_heard : joined_onto params (pieces params_number rest) ≡ joined_onto None (pieces params_number all)
   pub election_heard : joined_onto election (pieces election_number rest) ≡ joined_onto None (pieces election_number all)
 
-map_cons : {A B : Type 0} (f : A → B) (x : Option A) (before : List B) (xs : List A) → before ++ map f (cons_option x xs) ≡ (before ++ map f (option_to_list x)) ++ map f xs
-map_cons f None before xs = rw append-nil refl
-map_cons f (Some x) before xs = sym (append_assoc before (f x ∷ []) (map f xs))
-
-pub hears_request : (n : Numbers) (operation_number params_number election_number : ℕ)
-    (operations new_operations : List RawOperation) (params new_params : Option (List ℕ)) (election new_election : Option (List ℕ))
+pub hears_asks : (params_number election_number : ℕ)
+    (params new_params : Option (List ℕ)) (election new_election : Option (List ℕ))
     (f : Spot) (before rest all : List Spot)
-    → IsRequestSoFar n operation_number params_number election_number operations params election before all
+    → AreAsksSoFar params_number election_number params election before all
     → before ≡ f ∷ rest
-    → new_operations ≡ operations ++ map (operation_of n) (option_to_list (piece_in operation_number f.number f.value))
     → new_params ≡ joined_with params (piece_in params_number f.number f.value)
     → new_election ≡ joined_with election (piece_in election_number f.number f.value)
-    → IsRequestSoFar n operation_number params_number election_number new_operations new_params new_election rest all
-hears_request n operation_number params_number election_number operations new_operations params new_params election new_election f before rest all h first a b c =
+    → AreAsksSoFar params_number election_number new_params new_election rest all
+hears_asks params_number election_number params new_params election new_election f before rest all h first a b =
     let was = rw first at h in
     record {
-      operations_heard = rw a (sym (map_cons (operation_of n) (piece_in operation_number f.number f.value) operations (pieces operation_number rest)) ∙ was.operations_heard);
-      params_heard = rw b (sym (joined_cons (piece_in params_number f.number f.value) params (pieces params_number rest)) ∙ was.params_heard);
-      election_heard = rw c (sym (joined_cons (piece_in election_number f.number f.value) election (pieces election_number rest)) ∙ was.election_heard);
+      params_heard = rw a (sym (joined_cons (piece_in params_number f.number f.value) params (pieces params_number rest)) ∙ was.params_heard);
+      election_heard = rw b (sym (joined_cons (piece_in election_number f.number f.value) election (pieces election_number rest)) ∙ was.election_heard);
     }
 
-pub ruleset request_heard = (hears_request)
+pub ruleset asks_heard = (hears_asks)

@@ -2,7 +2,6 @@ pub mod Texts
 pub mod Schemas
 pub mod NamesAsked
 pub mod Hearing
-pub mod Single
 pub mod TwoNumbers
 pub mod ReadAgain
 pub mod Answered

@@ -9,7 +9,9 @@ ghost use Rattle.aft_messages.specs.Decodes.{Decodes};
 ghost use Rattle.aft_messages.specs.Reading.{entry_of as entry_said};
 ghost use Rattle.gribi_messages.specs.Request.{params_of as params_said, uint128_of as uint128_said, op_of as op_said, operation_of as operation_said, member_entry, unread_member as unread_said, entry_members, modify_request, operations_of as operations_said, parameters_of as parameters_said};
 
-use crate::heard::{hear, hear_request, numbers_at};
+use crate::heard::{hear, hear_asks, numbers_at};
+use crate::lists::RawOperations;
+use crate::pieces::OperationPieces;
 use crate::request::{ModifyRequest, RawParams};
 use aft_entries::{Kind, Op, RawEntry, RawOperation};
 use aft_messages::{read_entry, read_text};
@@ -141,11 +143,17 @@ pub fn operation_of(alloc: Global, n: &Numbering, bytes: &[u8]) -> Result<RawOpe
     }
 }
 
+/// The session parameters that a request asks for, and its election id, heard in one pass.
 #[tactic(auto, unfolding(crate::specs::Request::modify_request))]
-fn request_of(alloc: Global, n: &Numbering, bytes: &[u8]) -> Result<ModifyRequest, AllocError>
-    ensures { IfOk result (λ request. request ≡ modify_request n.now bytes.now) }
+pub fn asks_of(
+    alloc: Global,
+    n: &Numbering,
+    bytes: &[u8],
+) -> Result<(Option<RawParams>, Option<u128>), AllocError>
+    ensures params { IfOk result (λ asks. asks.0 ≡ (modify_request n.now bytes.now).params) }
+    ensures election { IfOk result (λ asks. asks.1 ≡ (modify_request n.now bytes.now).election) }
 {
-    let heard = hear_request(alloc, n, bytes)?;
+    let heard = hear_asks(alloc, n, bytes)?;
     let params = match &heard.params {
         None => None,
         Some(params) => Some(params_of(n, params.as_bytes())),
@@ -154,8 +162,28 @@ fn request_of(alloc: Global, n: &Numbering, bytes: &[u8]) -> Result<ModifyReques
         None => None,
         Some(id) => Some(uint128_of(n, id.as_bytes())),
     };
+    Ok((params, election))
+}
+
+fn operations_of(alloc: Global, n: &Numbering, bytes: &[u8]) -> Result<RawOperations, AllocError>
+    ensures { IfOk result (λ all. all ≡ operations_said n.now bytes.now) }
+{
+    let mut all = RawOperations::new(alloc);
+    let mut pieces = OperationPieces::new(n, bytes);
+    while let Some(piece) = pieces.next() {
+        all.push(operation_of(alloc, n, piece)?)?;
+    }
+    Ok(all)
+}
+
+#[tactic(auto, unfolding(crate::specs::Request::modify_request))]
+fn request_of(alloc: Global, n: &Numbering, bytes: &[u8]) -> Result<ModifyRequest, AllocError>
+    ensures { IfOk result (λ request. request ≡ modify_request n.now bytes.now) }
+{
+    let (params, election) = asks_of(alloc, n, bytes)?;
+    let operations = operations_of(alloc, n, bytes)?;
     Ok(ModifyRequest {
-        operations: heard.operations,
+        operations,
         params,
         election,
     })

@@ -1,15 +1,13 @@
-ghost use Rattle.std.specs.Prelude.{◌≡◌, ◌++◌, ◌||◌, [], IfOk, OnOk, None, map, unwrap_or, if◌then◌else◌};
-ghost use Rattle.std.specs.Option.{option_map, option_copied, option_to_list};
+ghost use Rattle.std.specs.Prelude.{◌≡◌, [], IfOk, OnOk, unwrap_or};
+ghost use Rattle.std.specs.Option.{option_map, option_copied};
 ghost use Rattle.proto_wire.specs.Wire.{value_of};
 ghost use Rattle.proto_schema.specs.Words.{piece_in, member_in, number_at, text_at, message_at, chosen_at};
 ghost use Rattle.proto_schema.specs.Chosen.{chosen_seen};
 ghost use Rattle.schema_numbers.specs.Numbers.{field_of};
 ghost use Rattle.schema_numbers.specs.declared.names.FieldName.TheVariants as field_name;
-ghost use Rattle.gribi_messages.specs.Request.{entry_members, operation_of as operation_said, operations_of};
-ghost use Rattle.gribi_messages.specs.Heard.{joined_with, chosen_with, only_operation as only_operation_said};
+ghost use Rattle.gribi_messages.specs.Request.{entry_members};
+ghost use Rattle.gribi_messages.specs.Heard.{joined_with, chosen_with};
 
-use crate::decode::operation_of;
-use crate::lists::RawOperations;
 use proto_schema::{Chosen, Joined, choose, join, member_of, number_of, piece_of};
 use proto_wire::{Field, FieldReader, Next};
 use schema_numbers::{FieldName, Numbering};
@@ -132,105 +130,35 @@ pub fn hear<'a>(alloc: Global, n: &Numbering, bytes: &'a [u8]) -> Result<Heard<'
     }
 }
 
-/// What the fields of a request say, heard in one pass.
+/// What a request asks for beside its operations, heard in one pass.
 #[derive(Drop)]
-pub struct HeardRequest<'a> {
-    pub operations: RawOperations,
+pub struct HeardAsks<'a> {
     pub params: Option<Joined<'a>>,
     pub election: Option<Joined<'a>>,
 }
 
-// The operations so far, and that of this field where it is one.
-fn push_next(
-    alloc: Global,
-    n: &Numbering,
-    wanted: u32,
-    all: &mut RawOperations,
-    field: &Field<'_>,
-) -> Result<(), AllocError>
-    ensures { OnOk result (all.new ≡ all.old ++ map (operation_said n.now) (option_to_list (piece_in wanted field.now.number (value_of field.now.value)))) }
-{
-    match piece_of(wanted, field) {
-        Some(piece) => all.push(operation_of(alloc, n, piece)?),
-        None => Ok(()),
-    }
-}
-
-/// Hears the fields of a request.
-#[tactic(auto, using(crate::proofs::Hearing::request_heard))]
-pub fn hear_request<'a>(
+/// Hears the session parameters and the election id of a request.
+#[tactic(auto, using(crate::proofs::Hearing::asks_heard))]
+pub fn hear_asks<'a>(
     alloc: Global,
     n: &Numbering,
     bytes: &'a [u8],
-) -> Result<HeardRequest<'a>, AllocError>
-    ensures operations { IfOk result (λ h. h.operations ≡ operations_of n.now bytes.now) }
+) -> Result<HeardAsks<'a>, AllocError>
     ensures params { IfOk result (λ h. h.params ≡ message_at (field_of n.now field_name.ModifyRequestParams) bytes.now) }
     ensures election { IfOk result (λ h. h.election ≡ message_at (field_of n.now field_name.ModifyRequestElectionId) bytes.now) }
 {
-    let operation_number = n.field(FieldName::ModifyRequestOperation);
     let params_number = n.field(FieldName::ModifyRequestParams);
     let election_number = n.field(FieldName::ModifyRequestElectionId);
-    let mut operations = RawOperations::new(alloc);
     let mut params = None;
     let mut election = None;
     let mut reader = FieldReader::new(bytes);
     loop {
         match reader.next() {
             Next::Field(field) => {
-                push_next(alloc, n, operation_number, &mut operations, &field)?;
                 join_next(alloc, params_number, &mut params, &field)?;
                 join_next(alloc, election_number, &mut election, &field)?;
             }
-            _ => {
-                return Ok(HeardRequest {
-                    operations,
-                    params,
-                    election,
-                });
-            }
-        }
-    }
-}
-
-// The last operation, unless there is something else.
-fn last_unless<'a>(
-    several: bool,
-    has_params: bool,
-    has_election: bool,
-    last: Option<&'a [u8]>,
-) -> Option<&'a [u8]>
-    ensures { option_copied result ≡ (if several || has_params || has_election then None else option_copied last.entry) }
-{
-    if several || has_params || has_election {
-        None
-    } else {
-        last
-    }
-}
-
-/// The bytes of a request's operation, where it has one operation, and neither parameters nor an election id.
-#[tactic(auto, using(crate::proofs::Single::single))]
-pub fn only_operation<'a>(n: &Numbering, bytes: &'a [u8]) -> Option<&'a [u8]>
-    ensures { option_copied result ≡ only_operation_said n.now bytes.now }
-{
-    let operation_number = n.field(FieldName::ModifyRequestOperation);
-    let params_number = n.field(FieldName::ModifyRequestParams);
-    let election_number = n.field(FieldName::ModifyRequestElectionId);
-    let mut last = None;
-    let mut several = false;
-    let mut has_params = false;
-    let mut has_election = false;
-    let mut reader = FieldReader::new(bytes);
-    loop {
-        match reader.next() {
-            Next::Field(field) => {
-                let piece = piece_of(operation_number, &field);
-                several = several || (last.is_some() && piece.is_some());
-                last = piece.or(last);
-                has_params = has_params || piece_of(params_number, &field).is_some();
-                has_election = has_election || piece_of(election_number, &field).is_some();
-            }
-            _ => return last_unless(several, has_params, has_election, last),
+            _ => return Ok(HeardAsks { params, election }),
         }
     }
 }

@@ -9,6 +9,7 @@ mod heard;
 mod instance;
 mod laws;
 mod lists;
+mod pieces;
 mod read_response;
 mod request;
 mod response;
@@ -18,15 +19,16 @@ mod writers;
 
 pub use aft_entries::{Name, Op, RawEntry, RawOperation};
 pub use asks::{FlushAsk, FlushRequest, FlushResponse, GetRequest, InstanceAsk};
-pub use decode::{decode_modify, op_of, operation_of, uint128_of};
+pub use decode::{asks_of, decode_modify, op_of, operation_of, uint128_of};
 pub use flush::{decode_flush, decode_flush_response, encode_flush_request, encode_flush_response};
 pub use get::{decode_get, encode_get_request};
-pub use heard::{Heard, hear, only_operation};
+pub use heard::{Heard, hear};
 pub use laws::{
     flush_request_is_read_again, flush_response_is_read_again, get_request_is_read_again,
     get_response_is_read_again, modify_request_is_read_again, modify_response_is_read_again,
 };
 pub use lists::{AftResults, RawOperations};
+pub use pieces::OperationPieces;
 pub use proto_schema::MessageFault;
 pub use read_response::decode_modify_response;
 pub use request::{ModifyRequest, RawParams};

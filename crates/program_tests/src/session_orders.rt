@@ -1,6 +1,6 @@
 use aft_entries::{Ask, Instances, Reason};
 use schema_numbers::default_numbering;
-use session_engine::{Setting, find_single, read_orders};
+use session_engine::{Setting, operations_in, read_asks, read_operation, read_orders};
 use std::alloc::Global;
 use std::test::Fail;
 use table_model::{AckType, Persistence, Redundancy};
@@ -60,9 +60,17 @@ fn is_bad_key(ask: &Ask) -> bool {
 }
 
 #[test]
-fn a_single_operation_is_found(rt: HostRuntime) -> Result<(), Fail> {
+fn operations_are_read_one_by_one(rt: HostRuntime) -> Result<(), Fail> {
     let setting = setting(rt.alloc(), &["DEFAULT"])?;
-    let single = find_single(&setting, ADD)?;
-    assert_eq!(rt; single, Some(ADD.split_at(2).1));
+    let (params, election) = read_asks(rt.alloc(), &setting, ADD)?;
+    assert!(rt; params.is_none() && election.is_none());
+    let mut pieces = operations_in(&setting, ADD);
+    if let Some(piece) = pieces.next() {
+        let operation = read_operation(rt.alloc(), &setting, piece)?;
+        assert!(rt; is_bad_key(&operation.ask));
+    } else {
+        assert!(rt; false);
+    }
+    assert!(rt; pieces.next().is_none());
     Ok(())
 }

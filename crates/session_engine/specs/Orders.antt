@@ -1,9 +1,8 @@
 -- What a ModifyRequest orders (gRIBI): parameters, an election id, and operations, each of which is a command of its session.
-use Rattle.std.specs.Prelude.{◌≡◌, ℕ, ℤ, List, [], ◌∷◌, ◌++◌, map, Option, Some, None, is_none, ◌==◌, ◌&&◌, if◌then◌else◌}
+use Rattle.std.specs.Prelude.{ℕ, ℤ, List, [], ◌∷◌, ◌++◌, map, Option, Some, None, ◌==◌, if◌then◌else◌}
 use Rattle.std.specs.Option.{option_map, option_map_or}
 use Rattle.schema_numbers.specs.Numbers.{Numbers, value_of}
 use Rattle.schema_numbers.specs.declared.names.ValueName.TheVariants as value
-use Rattle.proto_schema.specs.declared.legal.MessageFault.{MessageFault}
 use Rattle.aft_entries.specs.Checked.{checked}
 use Rattle.aft_entries.specs.declared.operation.RawOperation.{RawOperation}
 use Rattle.gribi_messages.specs.declared.request.RawParams.{RawParams}
@@ -71,22 +70,8 @@ commands_of session now orders =
     ++ option_map_or (λ id. Announce session id ∷ []) orders.election []
     ++ map (λ operation. Operate session operation now) orders.operations
 
--- ---- one operation and nothing else
-
-abbrev pub only : {A : Type 0} → List A → Option A
-only [] = None
-only (x ∷ []) = Some x
-only (x ∷ y ∷ others) = None
-
--- the operation, where there is one operation, and neither parameters nor an election id
-abbrev pub single_in : Orders → Option Operation
-single_in orders = if is_none orders.params && is_none orders.election then only orders.operations else None
+-- ---- the operations, one after another
 
 -- What bytes of an operation order.
 abbrev pub operation_at : Setting → List ℕ → Operation
 operation_at s bytes = operation_of s.instances (raw_operation s.numbering bytes)
-
--- The bytes of such an operation are found where the message has no fault. For other orders none are found.
-abbrev pub FindsSingle : Setting → Option (List ℕ) → Option MessageFault → Orders → Type 0
-FindsSingle s None fault orders = single_in orders ≡ None
-FindsSingle s (Some bytes) fault orders = (fault ≡ None) × (single_in orders ≡ Some (operation_at s bytes))

@@ -8,4 +8,7 @@ mod orders;
 
 pub use answers::{Message, answer_of, append_answer};
 pub use ends::end_of;
-pub use orders::{Operations, Orders, Setting, find_single, read_operation, read_orders};
+pub use gribi_messages::OperationPieces;
+pub use orders::{
+    Operations, Orders, Setting, operations_in, read_asks, read_operation, read_orders,
+};

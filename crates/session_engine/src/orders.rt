@@ -1,5 +1,5 @@
-ghost use Rattle.std.specs.Prelude.{◌≡◌, map, Some, IfOk, IfErr};
-ghost use Rattle.std.specs.Option.{option_map, option_copied};
+ghost use Rattle.std.specs.Prelude.{◌≡◌, map, IfOk};
+ghost use Rattle.std.specs.Option.{option_map};
 ghost use Rattle.proto_schema.specs.declared.schema.MessageKind.TheVariants as message_kind;
 ghost use Rattle.proto_schema.specs.Legal.{first_fault};
 ghost use Rattle.aft_messages.specs.Decodes.{Decodes};
@@ -7,10 +7,9 @@ ghost use Rattle.session_engine.specs.Orders as said;
 
 use aft_entries::{Instances, RawOperation, check_entry};
 use gribi_messages::{
-    MessageFault, RawOperations, RawParams, decode_modify, only_operation,
+    MessageFault, OperationPieces, RawOperations, RawParams, asks_of, decode_modify,
     operation_of as raw_operation_of,
 };
-use proto_schema::{MessageKind, first_fault};
 use schema_numbers::{Numbering, ValueName};
 use std::alloc::{AllocError, Global};
 use std::marker::Model;
@@ -174,22 +173,26 @@ pub fn read_operation(
     }
 }
 
-/// The bytes of the operation of a ModifyRequest that orders one operation and nothing else, or the first fault of its bytes
-/// with its place. None where the request orders something else or nothing, whether or not its bytes have a fault.
-#[tactic(auto, using(crate::proofs::Single::single))]
-pub fn find_single<'a>(
+/// The session parameters that a ModifyRequest asks for, and its election id: what it orders before its operations. Its bytes are
+/// to have no fault.
+#[tactic(auto, unfolding(crate::specs::Orders::orders_of))]
+pub fn read_asks(
+    alloc: Global,
     setting: &Setting,
-    message: &'a [u8],
-) -> Result<Option<&'a [u8]>, MessageFault>
-    ensures single { IfOk result (λ bytes. said.FindsSingle setting.now (option_copied bytes) (first_fault setting.now.numbering message_kind.ModifyRequest message.now) (said.orders_of setting.now message.now)) }
-    ensures fault { IfErr result (λ fault. first_fault setting.now.numbering message_kind.ModifyRequest message.now ≡ Some fault) }
+    message: &[u8],
+) -> Result<(Option<AskedParams>, Option<u128>), AllocError>
+    ensures params { IfOk result (λ asks. asks.0 ≡ (said.orders_of setting.now message.now).params) }
+    ensures election { IfOk result (λ asks. asks.1 ≡ (said.orders_of setting.now message.now).election) }
 {
     let n = &setting.numbering;
-    match only_operation(n, message) {
-        None => Ok(None),
-        Some(bytes) => match first_fault(n, MessageKind::ModifyRequest, message) {
-            Some(fault) => Err(fault),
-            None => Ok(Some(bytes)),
-        },
-    }
+    let (params, election) = asks_of(alloc, n, message)?;
+    Ok((asked_of(n, params), election))
+}
+
+/// The operations of a ModifyRequest, to be read one after another by [`read_operation`], so that none takes memory before its turn.
+#[inline(always)]
+pub fn operations_in<'a>(setting: &Setting, message: &'a [u8]) -> OperationPieces<'a>
+    ensures { map (said.operation_at setting.now) result ≡ (said.orders_of setting.now message.now).operations }
+{
+    OperationPieces::new(&setting.numbering, message)
 }
