@@ -2,5 +2,4 @@ pub mod Again
 pub mod Codes
 pub mod Escapes
 pub mod HeadsAgain
-pub mod Names
 pub mod Reasons

@@ -5,10 +5,9 @@ ghost use Rattle.std.specs.Str.{bytes_eq};
 ghost use Rattle.grpc_heads.specs.Heads as spec;
 ghost use Rattle.grpc_heads.specs.Heads.{head_of, first_value};
 
-use crate::malformed::{equal, is_malformed};
 use crate::status::Status;
 use crate::text::Text;
-use hpack_tables::{Field, Fields};
+use hpack_tables::{Field, Fields, is_malformed_request};
 
 /// A method of the service `gribi.gRIBI`.
 #[derive(Clone, Copy, Debug, PartialEq, Eq)]
@@ -42,7 +41,7 @@ pub fn read_request_head(fields: &Fields) -> HeadRead
     ensures { result ≡ head_of fields.now }
 {
     let fields = fields.as_slice();
-    if is_malformed(fields) {
+    if is_malformed_request(fields) {
         return HeadRead::Malformed;
     }
     if !is_post(value(fields, b":method")) {
@@ -174,4 +173,10 @@ fn is_unit(unit: &[u8]) -> bool
         || equal(unit, b"m")
         || equal(unit, b"u")
         || equal(unit, b"n")
+}
+
+pub fn equal(text: &[u8], other: &[u8]) -> bool
+    ensures { result ≡ bytes_eq text.now other.now }
+{
+    text == other
 }

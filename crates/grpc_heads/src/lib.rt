@@ -3,7 +3,6 @@
 
 mod head;
 mod laws;
-mod malformed;
 mod reading;
 mod status;
 mod text;

@@ -10,8 +10,7 @@ ghost use Rattle.schema_numbers.specs.Numbers.{value_of};
 ghost use Rattle.grpc_heads.specs.Written as written;
 ghost use Rattle.grpc_heads.specs.Written.{digits};
 
-use crate::head::value;
-use crate::malformed::equal;
+use crate::head::{equal, value};
 use crate::status::{ModifyReason, Status};
 use crate::text::Text;
 use crate::written::reason_name;

@@ -1,6 +1,9 @@
 -- A side that sends no head and no data spells nothing.
-use Rattle.std.proofs.Common.{◌≡◌, ℕ, false, true, List, [], ◌∷◌, ◌++◌, Option, Some, None, refl, ap, ◌∙◌}
+use Rattle.std.proofs.Common.{◌≡◌, ℕ, Bool, ◌||◌, false, true, List, [], ◌∷◌, ◌++◌, Option, Some, None, refl, sym, ap, ◌∙◌}
 use Rattle.std.specs.Prelude.{option_to_list}
+use Rattle.std.specs.List.{list_any}
+use Rattle.std.proofs.lemmas.List.Concat.{flat_map-append}
+use Rattle.std.proofs.lemmas.List.Folds.{list_any-append}
 use Rattle.grpc_framing.specs.declared.front.Front.TheVariants.{NeedMore}
 use Rattle.grpc_framing.specs.Framing.{messages_of, messages_upto}
 use Rattle.h2_frames.specs.declared.frame.Frame.{Frame}
@@ -10,7 +13,8 @@ use Rattle.hpack_tables.specs.declared.field.Field.{Field}
 use Rattle.h2_exchange.specs.declared.role.Role.{Role}
 use Rattle.h2_exchange.specs.declared.role.Role.TheVariants.{Client, Server}
 use Rattle.h2_exchange.specs.Blocks.{Block, block_with, blocks_behind, left_open, completed, completed_by}
-use Rattle.h2_exchange.specs.Exchange.{sent}
+use Rattle.h2_exchange.specs.Exchange.{Step, Sent, sent_of, sent}
+use Rattle.h2_exchange.specs.Frames.{is_rst_stream}
 use Rattle.h2_exchange.specs.Spelled.{Part, Unclosed, has_begun, parts, part_of, block_part}
 use Rattle.h2_conn.specs.declared.greeter.Greeter.{Greeter}
 use Rattle.h2_conn.specs.Greets as greets
@@ -90,10 +94,28 @@ silent Client t id none owes = record {
   front = rw owes refl;
 }
 
+none_reset : (s u : FrameBody) (last : Option FrameBody) → list_any is_rst_stream (frames s u last) ≡ false
+none_reset s u None = refl
+none_reset s u (Some b) = refl
+
+or_right : (a b c : Bool) → b ≡ true → (a || (b || c)) ≡ true
+or_right true b c e = refl
+or_right false true c e = refl
+or_right false false c e = absurd cc
+
+-- where no RST_STREAM is sent, none stands anywhere
+never_reset : {A : Type 0} (fs : List Frame) (past behind : List Step) (f : Frame) → list_any is_rst_stream fs ≡ false → fs ≡ sent (past ++ Sent f ∷ behind) → is_rst_stream f ≡ true → A
+never_reset fs past behind f none same is =
+    let cut : fs ≡ sent past ++ f ∷ sent behind = same ∙ flat_map-append sent_of past (Sent f ∷ behind) in
+    let some : list_any is_rst_stream fs ≡ true =
+    ap (list_any is_rst_stream) cut ∙ list_any-append is_rst_stream (sent past) (f ∷ sent behind) ∙ or_right (list_any is_rst_stream (sent past)) (is_rst_stream f) (list_any is_rst_stream (sent behind)) is in
+    let clash : true ≡ false = sym some ∙ none in absurd cc
+
 pub sound : (g : Greeter) (t : Talk) → greets.StandsFor g t.course → t.told ≡ [] → t.taken ≡ [] → IsSoundTalk t (greets.output_of g)
 sound g t h told taken = record {
   course = h.sound;
   told = rw told (told_in t, refl);
+  only = λ past behind f split is. never_reset (frames h.parts.sent.settings h.parts.sent.update h.parts.sent.last) past behind f (none_reset h.parts.sent.settings h.parts.sent.update h.parts.sent.last) (sym sent_is ∙ ap sent split) is;
   spelled = λ id fits. silent t.course.role t id (ap (λ (fs : List Frame). parts id t.course.written fs) sent_is ∙ no_parts id t.course.written h.parts.sent.settings h.parts.sent.update h.parts.sent.last) (none_owed t id taken);
 }
   where

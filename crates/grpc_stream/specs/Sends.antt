@@ -5,14 +5,15 @@ use Rattle.h2_frames.specs.declared.frame.Frame.{Frame}
 use Rattle.h2_frames.specs.declared.frame.Frame.TheVariants.{Content, Headers, Continuation}
 use Rattle.hpack_tables.specs.declared.field.Field.{Field}
 use Rattle.h2_exchange.specs.Exchange.{sent}
+use Rattle.h2_exchange.specs.Frames.{has_padding}
 use Rattle.h2_exchange.specs.Streams.{is_live, is_open, is_ended_by}
 use Rattle.h2_exchange.specs.Windows.{may_send}
 use Rattle.h2_conn.specs.Course.{is_alive, wrote}
 use Rattle.grpc_stream.specs.Talk.{Talk, changed, is_ended, left_on}
 
--- heads, data and trailers, on streams that are open
+-- heads, data and trailers, on streams that are open; data has no padding, which would count as bytes of messages
 abbrev pub IsCarried : Talk → Frame → Type 0
-IsCarried t (Content b) = is_open t.course.role t.course.frames b.stream ≡ true
+IsCarried t (Content b) = (is_open t.course.role t.course.frames b.stream ≡ true) × (has_padding (Content b) ≡ false)
 IsCarried t (Headers b) = is_open t.course.role t.course.frames b.stream ≡ true
 IsCarried t (Continuation b) = is_open t.course.role t.course.frames b.stream ≡ true
 IsCarried t other = ⊥

@@ -1,6 +1,6 @@
 -- What the calls of a connection were used for. No object stores it: each call carries it on.
-use Rattle.std.specs.Prelude.{◌≡◌, ℕ, ◌-◌, ◌==◌, ◌&&◌, Bool, true, false, not, map, filter, sum_by, List, [], ◌∷◌, ◌++◌, length, Option, Some, None, Result, Ok, Err, codes, if◌then◌else◌}
-use Rattle.std.specs.List.{All, find, flat_map, list_any}
+use Rattle.std.specs.Prelude.{◌≡◌, ◌⊎◌, ℕ, ◌-◌, ◌==◌, ◌&&◌, Bool, true, false, not, map, filter, sum_by, List, [], ◌∷◌, ◌++◌, length, Option, Some, None, Result, Ok, Err, codes, if◌then◌else◌}
+use Rattle.std.specs.List.{All, Contains, find, flat_map, list_any}
 use Rattle.std.specs.Str.{bytes_eq}
 use Rattle.grpc_framing.specs.Framing.{item}
 use Rattle.grpc_heads.specs.declared.head.HeadRead.{HeadRead}
@@ -11,11 +11,14 @@ use Rattle.grpc_heads.specs.Ending.{Ending}
 use Rattle.grpc_heads.specs.Heads.{first_value, is_grpc, head_of}
 use Rattle.grpc_heads.specs.Trailers.{ending_of}
 use Rattle.grpc_heads.specs.Written.{request_fields, response_fields}
+use Rattle.h2_frames.specs.declared.frame.Frame.{Frame}
 use Rattle.hpack_tables.specs.declared.field.Field.{Field}
 use Rattle.h2_exchange.specs.declared.role.Role.{Role}
 use Rattle.h2_exchange.specs.declared.role.Role.TheVariants.{Client, Server}
 use Rattle.h2_exchange.specs.Calls.{Call, Answer, calls, answers}
-use Rattle.h2_exchange.specs.Exchange.{sent}
+use Rattle.h2_exchange.specs.Exchange.{Step, Sent, sent}
+use Rattle.h2_exchange.specs.Frames.{stream_of, is_rst_stream}
+use Rattle.h2_exchange.specs.Outgoing.{IsErrorReset}
 use Rattle.h2_exchange.specs.Requests as request
 use Rattle.h2_exchange.specs.Requests.{Asks, end_if}
 use Rattle.h2_exchange.specs.Sending.{IsFront}
@@ -216,4 +219,7 @@ pub record IsSoundTalk (t : Talk) (output : List ℕ) : Type 0 where
   pub course : IsSound t.course output
   -- what was told is the first of what the events tell
   pub told : IsFront t.told (told_in t)
+  -- RST_STREAM is sent at a stream error, or where the reset of its stream was asked for
+  pub only : (past behind : List Step) (f : Frame) → t.course.frames ≡ past ++ Sent f ∷ behind → is_rst_stream f ≡ true →
+      IsErrorReset t.course.role t.course.limits t.course.heads past f ⊎ Contains t.resets (stream_of f)
   pub spelled : (id : ℕ) → All (λ what. suits t.course.role what ≡ true) (owed t id) → SpellsOn t.course.role t id

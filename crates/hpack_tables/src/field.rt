@@ -9,5 +9,6 @@ pub struct Field {
     pub value: Bytes,
 }
 
+pub mod malformed;
 mod marks;
 mod parts;
