@@ -6,9 +6,10 @@ use Rattle.std.proofs.lemmas.Bool.{le-ltb}
 use Rattle.std.proofs.lemmas.Nat.{from_be_bytes-to_be_bytes_4}
 use Rattle.std.proofs.lemmas.List.{take_at, drop_at, drop_all, append-nil, length-append}
 use Rattle.std.proofs.lemmas.List.Elements.{All-head, All-tail}
-use Rattle.grpc_framing.specs.declared.front.Front.TheVariants.{Message}
-use Rattle.grpc_framing.specs.Framing.{item_at, front_at, first_then, all_then, messages_of, item, items}
-use Rattle.grpc_framing.proofs.Streams.{messages_of-message}
+use Rattle.grpc_framing.specs.declared.front.Front.{Front}
+use Rattle.grpc_framing.specs.declared.front.Front.TheVariants.{Message, NeedMore, Compressed, TooLong}
+use Rattle.grpc_framing.specs.Framing.{item_at, front_at, stopped, first_then, all_then, messages_of, item, items}
+use Rattle.grpc_framing.proofs.Streams.{messages_of-message, messages_of-at}
 
 -- ---- what was written
 
@@ -54,3 +55,17 @@ messages_of-items limit (message ∷ messages) more small h =
     ap (messages_of limit) (append_assoc (item message) (items messages) more)
     ∙ one_written limit message (items messages ++ more) small (All-head (λ message. length message ≤ limit) message messages h)
     ∙ ap (first_then message) (messages_of-items limit messages more small (All-tail (λ message. length message ≤ limit) message messages h))
+
+-- where no message stands, the cut is empty
+stops_at : (limit : ℕ) (rest : List ℕ) (f : Front) → front_at limit rest ≡ f → ((n : ℕ) → f ≡ Message n → ⊥) → messages_of limit rest ≡ stopped rest f
+stops_at limit rest (Message n) e none = absurd (none n refl)
+stops_at limit rest NeedMore e none = messages_of-at limit rest NeedMore e
+stops_at limit rest Compressed e none = messages_of-at limit rest Compressed e
+stops_at limit rest TooLong e none = messages_of-at limit rest TooLong e
+
+-- messages and a rest where no message stands are the cut
+pub messages_of-only : (limit : ℕ) (messages : List (List ℕ)) (rest : List ℕ) → limit < 2 ^ 32 → All (λ message. length message ≤ limit) messages
+    → ((n : ℕ) → front_at limit rest ≡ Message n → ⊥)
+    → messages_of limit (items messages ++ rest) ≡ all_then messages (stopped rest (front_at limit rest))
+messages_of-only limit messages rest small h none =
+    messages_of-items limit messages rest small h ∙ ap (all_then messages) (stops_at limit rest (front_at limit rest) refl none)

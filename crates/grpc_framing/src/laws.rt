@@ -34,7 +34,7 @@ pub fn written_messages_are_cut()
 {}
 
 /// A cut is the bytes again. Each of its messages is within the limit, and its ending is what
-/// stands at the front of the rest, which is no message. So no other cut is one.
+/// stands at the front of the rest, which is no message.
 pub fn cut_is_whole()
     ensures again { (limit : ℕ) (bytes : List ℕ) → All (λ byte. byte < 256) bytes →
         let cut = messages_of limit bytes in items cut.messages ++ cut.rest ≡ bytes }
@@ -44,4 +44,13 @@ pub fn cut_is_whole()
         let cut = messages_of limit bytes in front_at limit cut.rest ≡ cut.ending }
     ensures stops { (limit n : ℕ) (bytes : List ℕ) →
         (messages_of limit bytes).ending ≡ Message n → ⊥ }
+{}
+
+/// Whatever messages and rest spell the bytes, they are the cut, where each message is within the
+/// limit and none stands at the front of the rest.
+pub fn cut_is_the_only_one()
+    ensures { (limit : ℕ) (messages : List (List ℕ)) (rest : List ℕ) → limit < 2 ^ 32 →
+        All (λ message. length message ≤ limit) messages →
+        ((n : ℕ) → front_at limit rest ≡ Message n → ⊥) →
+        messages_of limit (items messages ++ rest) ≡ all_then messages (stopped rest (front_at limit rest)) }
 {}
