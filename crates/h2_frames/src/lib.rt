@@ -11,5 +11,5 @@ mod writer;
 
 pub use code::ErrorCode;
 pub use frame::{Frame, FrameBody, OtherType};
-pub use reader::{FrameNext, FrameReader};
+pub use reader::{FrameNext, FrameReader, PREFACE};
 pub use writer::write_frame;

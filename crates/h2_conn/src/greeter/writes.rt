@@ -5,10 +5,8 @@ ghost use Rattle.h2_exchange.specs.Sending.{first_text};
 ghost use Rattle.h2_conn.specs.Greeting.{last_text};
 
 use h2_exchange::{H2Limits, Role};
-use h2_frames::ErrorCode;
+use h2_frames::{ErrorCode, PREFACE};
 use std::alloc::{AllocError, Global};
-
-const PREFACE: &[u8] = b"PRI * HTTP/2.0\r\n\r\nSM\r\n\r\n";
 
 /// The settings of a side, and the connection's window raised, behind the preface that is due.
 pub fn first(alloc: Global, role: Role, limits: H2Limits) -> Result<Vec<u8>, AllocError>
