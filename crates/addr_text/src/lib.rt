@@ -8,8 +8,6 @@ mod number;
 mod print;
 mod runs;
 mod scan;
-#[cfg(test)]
-mod tests;
 
 ghost use Rattle.std.specs.Prelude.{◌≡◌, ◌≤◌, ◌-◌, ◌%◌, ◌^◌, ◌==◌, IfSome};
 ghost use Rattle.addr_text.specs.Texts as spec;

@@ -19,6 +19,3 @@ pub use operation::{
     Act, Ask, Op, RawEntry, RawGroup, RawHop, RawLabels, RawMembers, RawOperation, RawRoute,
     Reason, Row, Rows,
 };
-
-#[cfg(test)]
-mod tests;

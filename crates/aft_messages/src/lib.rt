@@ -20,6 +20,3 @@ pub use read::{decode_entry, key_message, read_entry};
 pub use sizes::{number_size, varint_size};
 pub use words::{embedded_at, read_text, string_value_at, uint_value_at};
 pub use write::encode_raw_entry;
-
-#[cfg(test)]
-mod tests;

@@ -38,6 +38,3 @@ pub use response::{
 };
 pub use rows::{GetResponse, RawRow, RawRows, decode_get_response, encode_get_response};
 pub use write_request::encode_modify_request;
-
-#[cfg(test)]
-mod tests;

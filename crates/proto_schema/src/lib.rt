@@ -13,6 +13,3 @@ pub use words::{
     Chosen, choose, chosen_at, join, last_number_at, member_of, message_at, number_at, number_of,
     piece_of, text_at,
 };
-
-#[cfg(test)]
-mod tests;

@@ -10,6 +10,3 @@ pub use laws::{
 };
 pub use reader::{Field, FieldReader, Next, WireFault, WireValue};
 pub use writer::{write_bytes, write_uint, write_varint};
-
-#[cfg(test)]
-mod tests;

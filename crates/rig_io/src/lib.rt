@@ -7,6 +7,3 @@ mod source;
 
 pub use sink::{MemSink, Placed, Sink};
 pub use source::{MemSource, Source, Took};
-
-#[cfg(test)]
-mod tests;
