@@ -1,6 +1,7 @@
 -- Where nothing is outstanding, each job whose result the session wants has one, and it was answered.
 use Rattle.std.proofs.Common.{◌≡◌, ◌≤◌, ℕ, ◌+◌, ◌-◌, Bool, true, false, List, [], ◌∷◌, ◌++◌, length, map, take, drop, Some, None, Option, refl, sym, ap, ◌∙◌, arith, ◌⊎◌}
-use Rattle.std.specs.Prelude.{◌&&◌, cond, find, count_by, option_and_then, option_to_list}
+use Rattle.std.specs.Prelude.{◌&&◌, ◌||◌, cond, count_by, option_and_then, option_to_list}
+use Rattle.std.specs.List.{list_any}
 use Rattle.std.proofs.lemmas.List.{length-append, take_all}
 use Rattle.std.proofs.lemmas.List.Recursion.{is_count_by}
 use Rattle.std.proofs.Math.Seq.{take-add}
@@ -9,7 +10,7 @@ use Rattle.table_model.specs.declared.command.Config.{Config}
 use Rattle.table_model.specs.declared.reply.Reply.TheVariants as reply
 use Rattle.table_model.specs.declared.results.FibResult.{FibResult}
 use Rattle.table_model.specs.Event.{Event}
-use Rattle.table_model.specs.Jobs.{Task, Turn, tasks, tasks_by, slots, turn_of, turned, outcome_of, number_eq, is_undone}
+use Rattle.table_model.specs.Jobs.{task_at, Task, Turn, tasks, tasks_by, slots, turn_of, turned, outcome_of, number_eq, is_undone}
 use Rattle.table_model.specs.Laws.{handed, AllAnswered}
 use Rattle.table_model.specs.Legal.{IsLawful}
 use Rattle.table_model.specs.Reply.{reply_to, is_halted, is_gone}
@@ -87,11 +88,11 @@ module _ (session : ℕ) (e : Event) (past : List Event) where
     brought o = length (option_to_list (cond (is_undone turn.outcome) None (option_and_then result o)))
 
     step : (x : Task) (ts : List Task) → Each (Before x) ts
-        → brought (find (λ other. number_eq turn.number other.job.number) ts) + tally (awaits session (e ∷ past)) ts ≡ tally (awaits session past) ts
+        → brought (task_at turn.number ts) + tally (awaits session (e ∷ past)) ts ≡ tally (awaits session past) ts
         → (b : Bool) → number_eq turn.number (number x) ≡ b
-        → brought (cond b (Some x) (find (λ other. number_eq turn.number other.job.number) ts)) + cond (wanted_by session x && is_undone (cond b turn.outcome (outcome_of past (number x)))) (1 + tally (awaits session (e ∷ past)) ts) (tally (awaits session (e ∷ past)) ts)
+        → brought (cond b (Some x) (task_at turn.number ts)) + cond (wanted_by session x && is_undone (cond b turn.outcome (outcome_of past (number x)))) (1 + tally (awaits session (e ∷ past)) ts) (tally (awaits session (e ∷ past)) ts)
         ≡ cond (wanted_by session x && is_undone (outcome_of past (number x))) (1 + tally (awaits session past) ts) (tally (awaits session past) ts)
-    step x ts lt rest false far = beside_count (wanted_by session x && is_undone (outcome_of past (number x))) (brought (find (λ other. number_eq turn.number other.job.number) ts)) (tally (awaits session past) ts) (tally (awaits session (e ∷ past)) ts) rest
+    step x ts lt rest false far = beside_count (wanted_by session x && is_undone (outcome_of past (number x))) (brought (task_at turn.number ts)) (tally (awaits session past) ts) (tally (awaits session (e ∷ past)) ts) rest
     step x ts lt rest true at =
         let behind : tally (awaits session (e ∷ past)) ts ≡ tally (awaits session past) ts = tally_same (awaits session (e ∷ past)) (awaits session past) ts (each_weaken (Before x) (λ t. awaits session (e ∷ past) t ≡ awaits session past t) ts (λ t below. beside t (far_from x t at below (number_eq turn.number (number t)) refl)) lt) in
         let open_here : is_undone (outcome_of past (number x)) ≡ true = ap (λ n. is_undone (outcome_of past n)) (sym (number_same turn.number (number x) at)) ∙ undone in
@@ -99,10 +100,10 @@ module _ (session : ℕ) (e : Event) (past : List Event) where
         ∙ here_count (is_undone turn.outcome) (wanted_by session x) (record { id = x.id; failed = failure x turn.outcome; now = turn.now }) (tally (awaits session past) ts)
         ∙ ap (λ b. cond (wanted_by session x && b) (1 + tally (awaits session past) ts) (tally (awaits session past) ts)) (sym open_here)
 
-    moves : (ts : List Task) → Pairs Before ts → brought (find (λ other. number_eq turn.number other.job.number) ts) + tally (awaits session (e ∷ past)) ts ≡ tally (awaits session past) ts
+    moves : (ts : List Task) → Pairs Before ts → brought (task_at turn.number ts) + tally (awaits session (e ∷ past)) ts ≡ tally (awaits session past) ts
     moves [] lt = nothing_brought (is_undone turn.outcome)
     moves (x ∷ ts) lt =
-        ap (λ o. brought (cond (number_eq turn.number (number x)) (Some x) (find (λ other. number_eq turn.number other.job.number) ts)) + cond (wanted_by session x && is_undone o) (1 + tally (awaits session (e ∷ past)) ts) (tally (awaits session (e ∷ past)) ts)) (next_is x)
+        ap (λ o. brought (cond (number_eq turn.number (number x)) (Some x) (task_at turn.number ts)) + cond (wanted_by session x && is_undone o) (1 + tally (awaits session (e ∷ past)) ts) (tally (awaits session (e ∷ past)) ts)) (next_is x)
         ∙ step x ts lt.0 (moves ts lt.1) (number_eq turn.number (number x)) refl
 
   old_jobs : (o : Option Turn) → turn_of e ≡ o → ((turn : Turn) → turn_of e ≡ Some turn → Taken past turn ⊎ Said past turn)
@@ -139,10 +140,18 @@ unfolding slots
 awaited_is past session = sym (tally_map (is_awaited session) (slot_at past) (tasks past)) ∙ is_count_by (tally (is_awaited session)) (is_awaited session) refl (λ _ _. refl) (map (slot_at past) (tasks past))
 
 -- what the reply says
-told : (given next : List FibResult) (left : ℕ) (halted gone : Bool) → reply.Collected given 0 ≡ cond halted reply.Stopped (cond gone reply.Gone (reply.Collected next left)) → (given ≡ next) × (left ≡ 0)
-told given next left true gone is = cc
-told given next left false true is = cc
-told given next left false false is = (cc, cc)
+pub told : (given next : List FibResult) (said left : ℕ) (halted gone : Bool) → reply.Collected given said ≡ cond halted reply.Stopped (cond gone reply.Gone (reply.Collected next left)) → (given ≡ next) × (said ≡ left)
+told given next said left true gone is = cc
+told given next said left false true is = cc
+told given next said left false false is = (cc, cc)
+
+none_step : (b any : Bool) (n : ℕ) → (n ≡ 0 → any ≡ false) → cond b (1 + n) n ≡ 0 → b || any ≡ false
+none_step true any n rest some = absurd (omega arith)
+none_step false any n rest none = rest none
+
+none_tallied : {X : Type 0} (p : X → Bool) (xs : List X) → tally p xs ≡ 0 → list_any p xs ≡ false
+none_tallied p [] h = refl
+none_tallied p (x ∷ xs) h = none_step (p x) (list_any p xs) (tally p xs) (none_tallied p xs) h
 
 all_handed : (before all next : List FibResult) (n : ℕ) → before ≡ take n all → next ≡ take 256 (drop n all) → length all ≤ n + length next → before ++ next ≡ all
 all_handed before all next n so_far which enough =
@@ -152,10 +161,11 @@ all_handed before all next n so_far which enough =
 pub all_answered : (config : Config) → AllAnswered config
 unfolding reply_to outstanding batch
 all_answered config past session given lawful =
-    let says = told given (batch past session) (outstanding past session) (is_halted past) (is_gone past (Collect session)) lawful.0 in
-    let none : count_by (is_awaited session) (slots past) + (length (results past session) - (taken past session + length (batch past session))) ≡ 0 = says.1 in
+    let says = told given (batch past session) 0 (outstanding past session) (is_halted past) (is_gone past (Collect session)) lawful.0 in
+    let none : count_by (is_awaited session) (slots past) + (length (results past session) - (taken past session + length (batch past session))) ≡ 0 = sym says.1 in
     let left = balance config past session lawful.1 in
     let waits = awaited_is past session in
     let wants = is_count_by (tally (wanted_by session)) (wanted_by session) refl (λ _ _. refl) (tasks past) in
     let same = ap length says.0 in
-    (all_handed (handed past session) (results past session) given (taken past session) (counted config past session lawful.1).0 says.0 (omega arith), omega arith)
+    let counts = is_count_by (tally (is_awaited session)) (is_awaited session) refl (λ _ _. refl) (slots past) in
+    (none_tallied (is_awaited session) (slots past) (omega arith), all_handed (handed past session) (results past session) given (taken past session) (counted config past session lawful.1).0 says.0 (omega arith), omega arith)

@@ -218,13 +218,15 @@ module _ (past : List Event) (n : JobNumber) where
       ∙ if_made (is_out (outcome_of past n)) (list_any (λ t. number_eq (number t) n) (tasks past)) (out_made config past lawful n)
 
 pub boards_tell : (config : Config) → BoardsTell config
-boards_tell config past ledger stands = record {
+boards_tell config past ledger workers stands = record {
   next = λ worker.
-      ap (λ board. next_task config.workers board worker) (stands.undone ∙ ap (map (as_wanted past)) (kept_slots past))
+      ap (λ n. next_task n ledger.undone worker) workers
+      ∙ ap (λ board. next_task config.workers board worker) (stands.undone ∙ ap (map (as_wanted past)) (kept_slots past))
       ∙ next_wanted past config.workers worker (filter is_kept (slots past))
       ∙ ap (option_map (as_wanted past)) (next_undone config.workers (slots past) worker);
   clear = λ worker.
-      ap (λ board. is_clear config.workers board worker) (stands.undone ∙ ap (map (as_wanted past)) (kept_slots past))
+      ap (λ n. is_clear n ledger.undone worker) workers
+      ∙ ap (λ board. is_clear config.workers board worker) (stands.undone ∙ ap (map (as_wanted past)) (kept_slots past))
       ∙ clear_wanted past config.workers worker (filter is_kept (slots past))
       ∙ clear_undone config.workers (slots past) worker;
   given = λ session alive. ap (take 256) (stands.due session) ∙ still_given past session alive;

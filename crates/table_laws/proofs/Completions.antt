@@ -1,6 +1,6 @@
 -- A job completes once, and a result without a failure was reported.
 use Rattle.std.proofs.Common.{◌≡◌, ◌≤◌, ℕ, ◌+◌, Bool, true, false, List, [], ◌∷◌, Some, None, Option, refl, sym, ap, subst, ◌∙◌, arith}
-use Rattle.std.specs.Prelude.{not, ◌&&◌, ℤ, cond, find, option_and_then}
+use Rattle.std.specs.Prelude.{not, ◌&&◌, ℤ, cond, option_and_then}
 use Rattle.std.proofs.lemmas.List.Recursion.{is_count_by}
 use Rattle.table_model.specs.declared.command.Command.{Command}
 use Rattle.table_model.specs.declared.command.Command.TheVariants.{Begin, SetParams, Announce, Operate, Collect, Leave, Flush, Select, Take, Report, Halt}
@@ -12,7 +12,7 @@ use Rattle.table_model.specs.declared.reply.Reply.{Reply}
 use Rattle.table_model.specs.declared.reply.Reply.TheVariants as reply
 use Rattle.table_model.specs.declared.results.FibResult.{FibResult}
 use Rattle.table_model.specs.Event.{Event, is_reported}
-use Rattle.table_model.specs.Jobs.{Task, Turn, Outcome, Programmed, Faulted, PassedOver, tasks, turn_of, turn_taken, turned, reported, outcome_of, number_eq, is_undone, skip_reason}
+use Rattle.table_model.specs.Jobs.{task_at, Task, Turn, Outcome, Programmed, Faulted, PassedOver, tasks, turn_of, turn_taken, turned, reported, outcome_of, number_eq, is_undone, skip_reason}
 use Rattle.table_model.specs.Laws.{event, completes, CompletesOnce, ProgrammedWasReported}
 use Rattle.table_model.specs.Legal.{IsLawful}
 use Rattle.table_model.specs.Results.{result_by, wanted_by, failure}
@@ -58,7 +58,7 @@ completes_once config past lawful n =
 -- what a result says of its turn
 record Comes (session : ℕ) (made : List Task) (turn : Turn) (result : FibResult) : Type 0 where
   pub task : Task
-  pub found : find (λ other. number_eq turn.number other.job.number) made ≡ Some task
+  pub found : task_at turn.number made ≡ Some task
   pub wanted : wanted_by session task ≡ true
   pub done : is_undone turn.outcome ≡ false
   pub is : record { id = task.id; failed = failure task turn.outcome; now = turn.now } ≡ result
@@ -66,20 +66,20 @@ record Comes (session : ℕ) (made : List Task) (turn : Turn) (result : FibResul
 comes : (session : ℕ) (made : List Task) (turn : Turn) (result : FibResult) → result_by session made (Some turn) ≡ Some result → Comes session made turn result
 comes session made turn result told = by_undone (is_undone turn.outcome) refl told
   where
-    by_wanted : (task : Task) → find (λ other. number_eq turn.number other.job.number) made ≡ Some task → is_undone turn.outcome ≡ false → (w : Bool) → wanted_by session task ≡ w
+    by_wanted : (task : Task) → task_at turn.number made ≡ Some task → is_undone turn.outcome ≡ false → (w : Bool) → wanted_by session task ≡ w
         → cond w (Some (record { id = task.id; failed = failure task turn.outcome; now = turn.now })) None ≡ Some result → Comes session made turn result
     by_wanted task found done true wanted told = record { task = task; found = found; wanted = wanted; done = done; is = cc }
     by_wanted task found done false wanted told = cc
 
-    by_found : (o : Option Task) → find (λ other. number_eq turn.number other.job.number) made ≡ o → is_undone turn.outcome ≡ false
+    by_found : (o : Option Task) → task_at turn.number made ≡ o → is_undone turn.outcome ≡ false
         → option_and_then (λ task. cond (wanted_by session task) (Some (record { id = task.id; failed = failure task turn.outcome; now = turn.now })) None) o ≡ Some result → Comes session made turn result
     by_found None found done told = cc
     by_found (Some task) found done told = by_wanted task found done (wanted_by session task) refl told
 
     by_undone : (b : Bool) → is_undone turn.outcome ≡ b
-        → cond b None (option_and_then (λ task. cond (wanted_by session task) (Some (record { id = task.id; failed = failure task turn.outcome; now = turn.now })) None) (find (λ other. number_eq turn.number other.job.number) made)) ≡ Some result → Comes session made turn result
+        → cond b None (option_and_then (λ task. cond (wanted_by session task) (Some (record { id = task.id; failed = failure task turn.outcome; now = turn.now })) None) (task_at turn.number made)) ≡ Some result → Comes session made turn result
     by_undone true is told = cc
-    by_undone false is told = by_found (find (λ other. number_eq turn.number other.job.number) made) refl is told
+    by_undone false is told = by_found (task_at turn.number made) refl is told
 
 -- a job that a worker took didn't come back as programmed
 not_taken : (session : ℕ) (made : List Task) (now : ℤ) (result : FibResult) (r : Reply) → result_by session made (turn_taken now r) ≡ Some result → result.failed ≡ None → ⊥
@@ -140,7 +140,7 @@ reported_is reply.NoMemory h = cc
 abbrev WasReported : ℕ → List Task → Command → Reply → FibResult → Type 0
 WasReported session made command r result =
     (number : JobNumber) × (task : Task) × (command ≡ Report number verdict.Programmed result.now) × (r ≡ reply.Reported)
-    × (find (λ other. number_eq number other.job.number) made ≡ Some task) × (task.id ≡ result.id) × (wanted_by session task ≡ true)
+    × (task_at number made ≡ Some task) × (task.id ≡ result.id) × (wanted_by session task ≡ true)
 
 by_report : (session : ℕ) (made : List Task) (number : JobNumber) (said : Verdict) (now : ℤ) (r : Reply) (result : FibResult) (b : Bool) → is_reported r ≡ b
     → result_by session made (cond b (Some (record { number = number; outcome = reported said; now = now })) None) ≡ Some result → result.failed ≡ None → WasReported session made (Report number said now) r result

@@ -11,7 +11,7 @@ use Rattle.table_model.specs.declared.command.Config.{Config}
 use Rattle.table_model.specs.declared.job.Work.{Work}
 use Rattle.table_model.specs.declared.job.Work.TheVariants.{Install, Remove}
 use Rattle.table_model.specs.Event.{Event}
-use Rattle.table_model.specs.Jobs.{Task, Turn, Outcome, Waiting, tasks, tasks_by, turn_of, turned, outcome_of, number_eq, is_undone, is_out, is_programmed, is_skipped, conflict, effect, work_key, work_refs, touches, fib}
+use Rattle.table_model.specs.Jobs.{task_at, Task, Turn, Outcome, Waiting, tasks, tasks_by, turn_of, turned, outcome_of, number_eq, is_undone, is_out, is_programmed, is_skipped, conflict, effect, work_key, work_refs, touches, fib}
 use Rattle.table_model.specs.Laws.{is_closed, effect_of, programmed_by, fib_by_reports, FibIsClosed}
 use Rattle.table_model.specs.Legal.{IsLawful}
 use Rattle.table_model.specs.Table.{put, take_out, resolves, used}
@@ -21,7 +21,7 @@ use Rattle.table_laws.proofs.Ascending.{number, is_from, made_of}
 use Rattle.table_laws.proofs.InTurn.{Waits, WaitAhead, outcome_next, says, in_turn, next_ahead, wait_ahead, from_le, out_not_waits}
 use Rattle.table_laws.proofs.Refused.{not_not}
 use Rattle.table_laws.proofs.Reports.{fib_next, reports, out_undone}
-use Rattle.table_laws.proofs.Turns.{Each, Pairs, each_of, each_weaken, each_both, each_append, each_all, number_same, number_symm, Taken, Said}
+use Rattle.table_laws.proofs.Turns.{Each, Pairs, each_of, each_weaken, each_both, each_append, each_all, number_same, Taken, Said}
 
 -- What a job that is done leaves to one that touches nothing of it.
 
@@ -146,18 +146,18 @@ module _ (past : List Event) (before : Holds past) where
     each_said said t here out = absurd (out_or_done turn.outcome said.completes out)
 
     -- of a job that is done
-    module _ (said : Said past turn) (waits : Pairs (Waits past) (tasks past)) (x : Task) (is : find (λ task. number_eq task.job.number turn.number) (tasks past) ≡ Some x) where
-      here : Ready (fib past) (outcome_of past (number x)) x × (number_eq (number x) turn.number ≡ true)
-      here = each_found (λ t. Ready (fib past) (outcome_of past (number t)) t) (λ task. number_eq task.job.number turn.number) x (tasks past) before.ready is
+    module _ (said : Said past turn) (waits : Pairs (Waits past) (tasks past)) (x : Task) (is : task_at turn.number (tasks past) ≡ Some x) where
+      here : Ready (fib past) (outcome_of past (number x)) x × (number_eq turn.number (number x) ≡ true)
+      here = each_found (λ t. Ready (fib past) (outcome_of past (number t)) t) (λ task. number_eq turn.number task.job.number) x (tasks past) before.ready is
 
       was_out : is_out (outcome_of past (number x)) ≡ true
-      was_out = ap (λ n. is_out (outcome_of past n)) (number_same (number x) turn.number here.1) ∙ said.was_out
+      was_out = ap (λ n. is_out (outcome_of past n)) (sym (number_same turn.number (number x) here.1)) ∙ said.was_out
 
       one_step : (t : Task) → (t ≡ x) ⊎ OutApart past x t → Ready (fib past) (outcome_of past (number t)) t
           → (b : Bool) → number_eq turn.number (number t) ≡ b → Ready (effect (fib past) x.job.work) (cond b turn.outcome (outcome_of past (number t))) t
       one_step t either old true at out = absurd (out_or_done turn.outcome said.completes out)
       one_step t (inl one) old false at out =
-          let same : number_eq turn.number (number t) ≡ true = ap (λ (y : Task). number_eq turn.number (number y)) one ∙ number_symm turn.number (number x) ∙ here.1 in
+          let same : number_eq turn.number (number t) ≡ true = ap (λ (y : Task). number_eq turn.number (number y)) one ∙ here.1 in
           let no_way : false ≡ true = sym at ∙ same in cc
       one_step t (inr apart) old false at out = let far = apart was_out out in still_fits (fib past) x.job.work t.job.work far.one far.other (old out)
 
@@ -167,11 +167,11 @@ module _ (past : List Event) (before : Holds past) where
         ready = each_both (λ t. (t ≡ x) ⊎ OutApart past x t) (λ t. Ready (fib past) (outcome_of past (number t)) t)
             (λ t. Ready (effect (fib past) x.job.work) (cond (number_eq turn.number (number t)) turn.outcome (outcome_of past (number t))) t) (tasks past)
             (λ t either old. one_step t either old (number_eq turn.number (number t)) refl)
-            (beside_found (Waits past) (OutApart past) (waits_apart past) (λ a b w one two. turn_about a b (waits_apart past a b w two one)) (λ task. number_eq task.job.number turn.number) x (tasks past) waits is)
+            (beside_found (Waits past) (OutApart past) (waits_apart past) (λ a b w one two. turn_about a b (waits_apart past a b w two one)) (λ task. number_eq turn.number task.job.number) x (tasks past) waits is)
             before.ready;
       }
 
-    by_done : Taken past turn ⊎ Said past turn → Pairs (Waits past) (tasks past) → (b : Bool) → is_programmed turn.outcome ≡ b → (o : Option Task) → find (λ task. number_eq task.job.number turn.number) (tasks past) ≡ o → After (Some turn) (cond b o None)
+    by_done : Taken past turn ⊎ Said past turn → Pairs (Waits past) (tasks past) → (b : Bool) → is_programmed turn.outcome ≡ b → (o : Option Task) → task_at turn.number (tasks past) ≡ o → After (Some turn) (cond b o None)
     by_done (inl took) waits true done o is = let no_way : false ≡ true = sym took.not_done ∙ done in cc
     by_done (inl took) waits false done o is = taken took
     by_done (inr said) waits true done (Some x) is = reported said waits x is
@@ -179,9 +179,9 @@ module _ (past : List Event) (before : Holds past) where
     by_done (inr said) waits false done o is = idle (each_of (λ t. number_eq turn.number (number t) ≡ true → Ready (fib past) turn.outcome t) (each_said said) (tasks past))
 
   after : (o : Option Turn) → ((turn : Turn) → o ≡ Some turn → Taken past turn ⊎ Said past turn) → Pairs (Waits past) (tasks past)
-      → After o (option_and_then (λ turn. cond (is_programmed turn.outcome) (find (λ task. number_eq task.job.number turn.number) (tasks past)) None) o)
+      → After o (option_and_then (λ turn. cond (is_programmed turn.outcome) (task_at turn.number (tasks past)) None) o)
   after None told waits = record { closed = before.closed; ready = before.ready }
-  after (Some turn) told waits = by_done turn (told turn refl) waits (is_programmed turn.outcome) refl (find (λ task. number_eq task.job.number turn.number) (tasks past)) refl
+  after (Some turn) told waits = by_done turn (told turn refl) waits (is_programmed turn.outcome) refl (task_at turn.number (tasks past)) refl
 
 -- the jobs that the event makes are not out
 new_ready : (table : List Entry) (e : Event) (past : List Event) → WaitAhead (e ∷ past) (length past) → Each (λ t. Ready table (outcome_of (e ∷ past) (number t)) t) (tasks_by e past)

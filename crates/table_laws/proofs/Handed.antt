@@ -4,14 +4,17 @@ use Rattle.std.specs.Prelude.{option_to_list}
 use Rattle.table_model.specs.declared.command.Command.TheVariants.{Report}
 use Rattle.table_model.specs.declared.command.Config.{Config}
 use Rattle.table_model.specs.declared.job.Verdict.TheVariants.{Programmed}
+use Rattle.table_model.specs.declared.reply.Reply.TheVariants.{Reported}
 use Rattle.table_model.specs.declared.results.FibResult.{FibResult}
 use Rattle.table_model.specs.Event.{Event}
 use Rattle.table_model.specs.Jobs.{tasks, turn_of}
 use Rattle.table_model.specs.Laws.{event}
+use Rattle.table_model.specs.Legal.{IsLawful}
 use Rattle.table_model.specs.Results.{results, result_by, taken}
 use Rattle.table_laws.specs.Handed.{WasReported, HandedWasReported}
 use Rattle.table_laws.proofs.Collected.{answered_once}
 use Rattle.table_laws.proofs.Completions.{programmed_was_reported}
+use Rattle.table_laws.proofs.Reports.{programmed_there}
 
 abbrev Every : (FibResult → Type 0) → List FibResult → Type 0
 Every P [] = Unit {0}
@@ -49,35 +52,39 @@ grown e past session result h fine =
       made = was.made;
       same_id = was.same_id;
       wanted = was.wanted;
+      there = was.there;
     }
 
-brought : (e : Event) (past : List Event) (session : ℕ) (o : Option FibResult) → result_by session (tasks past) (turn_of e) ≡ o → Every (Fine (e ∷ past) session) (option_to_list o)
-brought e past session None is = tt
-brought e past session (Some result) is = (told, tt)
+brought : (config : Config) (e : Event) (past : List Event) (session : ℕ) (o : Option FibResult) → IsLawful config (e ∷ past) → result_by session (tasks past) (turn_of e) ≡ o → Every (Fine (e ∷ past) session) (option_to_list o)
+brought config e past session None lawful is = tt
+brought config e past session (Some result) lawful is = (told, tt)
   where
     told : Fine (e ∷ past) session result
     told fine =
         let was = programmed_was_reported past e session result is fine in
+        let stands : e ∷ past ≡ event (Report was.0 Programmed result.now) Reported ∷ past =
+        ap (λ c. event c e.reply ∷ past) was.2 ∙ ap (λ r. event (Report was.0 Programmed result.now) r ∷ past) was.3 in
         record {
           later = [];
           earlier = past;
           number = was.0;
           task = was.1;
-          stands = ap (λ c. event c e.reply ∷ past) was.2 ∙ ap (λ r. event (Report was.0 Programmed result.now) r ∷ past) was.3;
+          stands = stands;
           made = was.4;
           same_id = was.5;
           wanted = was.6;
+          there = programmed_there config past was.0 result.now was.1 (subst (IsLawful config) stands lawful) was.4;
         }
 
-each_fine : (past : List Event) (session : ℕ) → Every (Fine past session) (results past session)
+each_fine : (config : Config) (past : List Event) (session : ℕ) → IsLawful config past → Every (Fine past session) (results past session)
 unfolding results
-each_fine [] session = tt
-each_fine (e ∷ past) session =
+each_fine config [] session lawful = tt
+each_fine config (e ∷ past) session lawful =
     every_append (Fine (e ∷ past) session) (results past session) (option_to_list (result_by session (tasks past) (turn_of e)))
-    (every_weaken (Fine past session) (Fine (e ∷ past) session) (results past session) (grown e past session) (each_fine past session))
-    (brought e past session (result_by session (tasks past) (turn_of e)) refl)
+    (every_weaken (Fine past session) (Fine (e ∷ past) session) (results past session) (grown e past session) (each_fine config past session lawful.1))
+    (brought config e past session (result_by session (tasks past) (turn_of e)) lawful refl)
 
 pub handed_reported : (config : Config) → HandedWasReported config
 handed_reported config past session before after result lawful is =
     every_at (Fine past session) before after result
-    (subst (Every (Fine past session)) (sym (answered_once config past session lawful) ∙ is) (every_take (Fine past session) (taken past session) (results past session) (each_fine past session)))
+    (subst (Every (Fine past session)) (sym (answered_once config past session lawful) ∙ is) (every_take (Fine past session) (taken past session) (results past session) (each_fine config past session lawful)))

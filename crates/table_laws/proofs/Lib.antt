@@ -14,6 +14,7 @@ pub mod Answered
 mod FibClosed
 mod Boards
 mod Handed
+mod Owed
 mod Whole
 mod Members
 mod Deep

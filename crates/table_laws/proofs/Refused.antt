@@ -5,7 +5,8 @@ use Rattle.aft_entries.specs.declared.entry.Entry.{Entry}
 use Rattle.aft_entries.specs.declared.key.Key.{Key}
 use Rattle.aft_entries.specs.declared.operation.Ask.TheVariants.{Put, Remove}
 use Rattle.aft_entries.specs.declared.operation.Reason.TheVariants.{UnknownInstance, BadKey, BadPayload, NotThere, Unresolved, BackupDepth, InUse, TableFull}
-use Rattle.table_model.specs.Table.{has, resolves, used, refusal, first_that_holds, is_bad_name, is_bad_payload, is_too_deep}
+use Rattle.aft_entries.specs.Naming.{first_that_holds}
+use Rattle.table_model.specs.Table.{has, resolves, used, refusal, is_bad_name, is_bad_payload, is_too_deep}
 
 -- where no test holds, these don't
 put_tests : (a b c d e f g : Bool) → first_that_holds ((a, UnknownInstance) ∷ (b, BadKey) ∷ (c, BadPayload) ∷ (d, NotThere) ∷ (e, Unresolved) ∷ (f, BackupDepth) ∷ (g, TableFull) ∷ []) ≡ None → (e ≡ false) × (f ≡ false)

@@ -1,6 +1,6 @@
 -- The forwarding table as reports change it is the one that the jobs leave in the order of their numbers.
 use Rattle.std.proofs.Common.{◌≡◌, Bool, true, false, List, [], ◌∷◌, ◌++◌, length, Some, None, Option, refl, sym, ap, ◌∙◌, inl, inr, ◌⊎◌}
-use Rattle.std.specs.Prelude.{◌||◌, cond, map, find, filter, fold, option_and_then}
+use Rattle.std.specs.Prelude.{◌||◌, cond, map, filter, fold, option_and_then}
 use Rattle.aft_entries.specs.declared.entry.Entry.{Entry}
 use Rattle.aft_entries.specs.Order.{key_eq}
 use Rattle.table_model.specs.declared.command.Command.TheVariants.{Report}
@@ -11,7 +11,7 @@ use Rattle.table_model.specs.declared.job.Work.{Work}
 use Rattle.table_model.specs.declared.job.Work.TheVariants.{Install, Remove}
 use Rattle.table_model.specs.declared.reply.Reply.TheVariants as reply
 use Rattle.table_model.specs.Event.{Event}
-use Rattle.table_model.specs.Jobs.{Task, Turn, Slot, Outcome, Waiting, Out, Programmed, Faulted, PassedOver, tasks, tasks_by, slots, turn_of, turned, outcome_of, number_eq, is_undone, is_out, is_waiting, is_programmed, conflict, effect, work_key, touches, fib, table_of}
+use Rattle.table_model.specs.Jobs.{task_at, Task, Turn, Slot, Outcome, Waiting, Out, Programmed, Faulted, PassedOver, tasks, tasks_by, slots, turn_of, turned, outcome_of, number_eq, is_undone, is_out, is_waiting, is_programmed, conflict, effect, work_key, touches, fib, table_of}
 use Rattle.table_model.specs.Laws.{event, left_by, effect_of, programmed_by, fib_by_reports, ReportsGiveFib, ProgrammedIsThere, ConflictsInOrder, OutAreApart}
 use Rattle.table_model.specs.Legal.{IsLawful}
 use Rattle.table_model.specs.Table.{in_order, lookup}
@@ -20,7 +20,7 @@ use Rattle.table_model.proofs.Effects as effects
 use Rattle.table_model.proofs.TableLemmas.{in_order_empty}
 use Rattle.aft_entries.specs.References.{is_among}
 use Rattle.table_laws.proofs.Ascending.{number, is_from, made_of, ascend}
-use Rattle.table_laws.proofs.Turns.{Each, Pairs, each_of, each_weaken, each_all, Before, ascending_pairs, number_same, number_symm, apart, Taken, Said, slot_at}
+use Rattle.table_laws.proofs.Turns.{Each, Pairs, each_of, each_weaken, each_all, Before, ascending_pairs, number_same, apart, Taken, Said, slot_at}
 use Rattle.table_laws.proofs.InTurn.{Waits, WaitAhead, outcome_next, undone_turn, says, in_turn, next_ahead, wait_ahead, from_le, out_not_waits}
 
 -- Programmed jobs, one after the other.
@@ -157,9 +157,9 @@ module _ (e : Event) (past : List Event) where
         by_conflict true meets = absurd (let over = waits meets (programmed_not_waiting (outcome_of past (number t)) done) in let no_way : true ≡ false = sym undone ∙ over in cc)
 
     late_step : (x : Task) (ts : List Task) (table : List Entry) → in_order table ≡ true → Each (Before x) ts → Each (Waits past x) ts
-        → (done_fold (outcome_of (e ∷ past)) (programs (outcome_of past) table x) ts ≡ effect_of (find (λ task. number_eq task.job.number turn.number) ts) (done_fold (outcome_of past) (programs (outcome_of past) table x) ts))
+        → (done_fold (outcome_of (e ∷ past)) (programs (outcome_of past) table x) ts ≡ effect_of (task_at turn.number ts) (done_fold (outcome_of past) (programs (outcome_of past) table x) ts))
         → (b : Bool) → number_eq turn.number (number x) ≡ b
-        → done_fold (outcome_of (e ∷ past)) (programs (outcome_of (e ∷ past)) table x) ts ≡ effect_of (cond b (Some x) (find (λ task. number_eq task.job.number turn.number) ts)) (done_fold (outcome_of past) (programs (outcome_of past) table x) ts)
+        → done_fold (outcome_of (e ∷ past)) (programs (outcome_of (e ∷ past)) table x) ts ≡ effect_of (cond b (Some x) (task_at turn.number ts)) (done_fold (outcome_of past) (programs (outcome_of past) table x) ts)
     late_step x ts table sorted lt waits rest false far =
         ap (λ b. done_fold (outcome_of (e ∷ past)) (cond b (effect table x.job.work) table) ts) (beside x far) ∙ rest
     late_step x ts table sorted lt waits rest true at =
@@ -171,11 +171,10 @@ module _ (e : Event) (past : List Event) where
         ∙ ap (λ b. effect (done_fold (outcome_of past) (cond b (effect table x.job.work) table) ts) x.job.work) (sym before)
 
     late : (ts : List Task) → Pairs Before ts → Pairs (Waits past) ts → (table : List Entry) → in_order table ≡ true
-        → done_fold (outcome_of (e ∷ past)) table ts ≡ effect_of (find (λ task. number_eq task.job.number turn.number) ts) (done_fold (outcome_of past) table ts)
+        → done_fold (outcome_of (e ∷ past)) table ts ≡ effect_of (task_at turn.number ts) (done_fold (outcome_of past) table ts)
     late [] lt waits table sorted = refl
     late (x ∷ ts) lt waits table sorted =
         late_step x ts table sorted lt.0 waits.0 (late ts lt.1 waits.1 (programs (outcome_of past) table x) (in_order_programs (outcome_of past) table x sorted)) (number_eq turn.number (number x)) refl
-        ∙ ap (λ b. effect_of (cond b (Some x) (find (λ task. number_eq task.job.number turn.number) ts)) (done_fold (outcome_of past) (programs (outcome_of past) table x) ts)) (number_symm turn.number (number x))
 
   taken_idle : (turn : Turn) → turn_of e ≡ Some turn → Taken past turn ⊎ Said past turn → is_programmed turn.outcome ≡ true → is_out (outcome_of past turn.number) ≡ true
   taken_idle turn is (inl taken) done = let no_way : false ≡ true = sym taken.not_done ∙ done in cc
@@ -183,11 +182,11 @@ module _ (e : Event) (past : List Event) where
 
   -- what the event does to the table of the jobs so far
   one_more : (o : Option Turn) → turn_of e ≡ o → ((turn : Turn) → turn_of e ≡ Some turn → Taken past turn ⊎ Said past turn) → Pairs (Waits past) (tasks past)
-      → done_fold (outcome_of (e ∷ past)) [] (tasks past) ≡ effect_of (option_and_then (λ turn. cond (is_programmed turn.outcome) (find (λ task. number_eq task.job.number turn.number) (tasks past)) None) o) (done_fold (outcome_of past) [] (tasks past))
+      → done_fold (outcome_of (e ∷ past)) [] (tasks past) ≡ effect_of (option_and_then (λ turn. cond (is_programmed turn.outcome) (task_at turn.number (tasks past)) None) o) (done_fold (outcome_of past) [] (tasks past))
   one_more None is told waits = done_same (outcome_of (e ∷ past)) (outcome_of past) [] (tasks past) (each_of (Alike (outcome_of (e ∷ past)) (outcome_of past)) (same_outcomes is) (tasks past))
   one_more (Some turn) is told waits = by_done (is_programmed turn.outcome) refl
     where
-      by_done : (b : Bool) → is_programmed turn.outcome ≡ b → done_fold (outcome_of (e ∷ past)) [] (tasks past) ≡ effect_of (cond b (find (λ task. number_eq task.job.number turn.number) (tasks past)) None) (done_fold (outcome_of past) [] (tasks past))
+      by_done : (b : Bool) → is_programmed turn.outcome ≡ b → done_fold (outcome_of (e ∷ past)) [] (tasks past) ≡ effect_of (cond b (task_at turn.number (tasks past)) None) (done_fold (outcome_of past) [] (tasks past))
       by_done false left = done_same (outcome_of (e ∷ past)) (outcome_of past) [] (tasks past) (each_of (Alike (outcome_of (e ∷ past)) (outcome_of past)) (idle_turn turn is (undone_turn past turn (told turn is)) left) (tasks past))
       by_done true done = late turn is (taken_idle turn is (told turn is) done) done (tasks past) (ascending_pairs (tasks past) (ascend past)) waits [] in_order_empty
 

@@ -7,7 +7,7 @@ ghost use Rattle.table_model.specs.Event.{Event};
 ghost use Rattle.table_model.specs.Jobs.{effect, work_key, slots, fib, is_programmed};
 ghost use Rattle.table_model.specs.Rib.{rib};
 ghost use Rattle.table_model.specs.declared.command.Config.{Config};
-ghost use Rattle.table_model.specs.Laws.{AllAnswered, AnsweredOnce, JobsAscend, CompletesOnce, ConflictsInOrder, OutAreApart, ProgrammedWasReported, ReportsGiveFib, ProgrammedIsThere, FibIsClosed, FaultlessIsSame};
+ghost use Rattle.table_model.specs.Laws.{AllAnswered, AnsweredOnce, JobsAscend, CompletesOnce, ConflictsInOrder, OutAreApart, OutstandingIsOwed, ProgrammedWasReported, ReportsGiveFib, ProgrammedIsThere, FibIsClosed, FaultlessIsSame};
 ghost use Rattle.table_model.specs.Table.{in_order};
 ghost use Rattle.table_laws.specs.Boards.{BoardsTell};
 ghost use Rattle.table_laws.specs.Handed.{HandedWasReported};
@@ -39,7 +39,7 @@ pub fn programmed_was_reported()
 {}
 
 /// Each result without a failure that a Collect handed out: a worker reported, at its moment, that the device programmed
-/// a job of the session with its id.
+/// a job of the session with its id, and right after that report the forwarding table had its entry, or no longer its key.
 pub fn handed_was_reported()
     ensures { (config : Config) → HandedWasReported config }
 {}
@@ -49,8 +49,13 @@ pub fn results_are_answered_once()
     ensures { (config : Config) → AnsweredOnce config }
 {}
 
-/// Where a Collect answers that nothing is outstanding, each result was answered, and each job whose result the session
-/// wants has one.
+/// What a Collect answers as outstanding is what the session waits for or hasn't collected right after it.
+pub fn outstanding_is_owed()
+    ensures { (config : Config) → OutstandingIsOwed config }
+{}
+
+/// Where a Collect answers that nothing is outstanding, no job is awaited, each result was answered, and each job whose
+/// result the session wants has one.
 pub fn all_are_answered()
     ensures { (config : Config) → AllAnswered config }
 {}
@@ -87,8 +92,8 @@ pub fn faultless_is_same()
     ensures { (config : Config) → FaultlessIsSame config }
 {}
 
-/// The undone jobs and the results that are due tell the next job of a worker, whether it has one left, what a live
-/// session collects next, what is outstanding then, and whether a job is out.
+/// The number of workers, the undone jobs and the results that are due tell the next job of a worker, whether it has
+/// one left, what a live session collects next, what is outstanding then, and whether a job is out.
 pub fn boards_tell()
     ensures { (config : Config) → BoardsTell config }
 {}

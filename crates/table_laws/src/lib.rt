@@ -19,8 +19,8 @@ pub use examples::{
 pub use jobs::{
     all_are_answered, boards_tell, faultless_is_same, fib_is_closed, fib_is_rib_where_programmed,
     handed_was_reported, in_flight_is_closed, jobs_ascend, jobs_complete_once,
-    jobs_in_conflict_keep_order, jobs_out_are_apart, late_work, programmed_is_there,
-    programmed_was_reported, reports_give_fib, results_are_answered_once,
+    jobs_in_conflict_keep_order, jobs_out_are_apart, late_work, outstanding_is_owed,
+    programmed_is_there, programmed_was_reported, reports_give_fib, results_are_answered_once,
 };
 pub use rib::{
     chains_are_short, done_is_there, done_where_due, equal_lookups, events_are_lawful,

@@ -1,5 +1,5 @@
 -- What acknowledgements and tables are worth, over every lawful history. The part of a lawful history before an event is lawful too, so each law holds at each event.
-use Rattle.std.specs.Prelude.{◌≡◌, ◌↔◌, ◌⊎◌, ℕ, ℤ, ◌<◌, ◌≤◌, Bool, true, false, not, ◌&&◌, List, [], ◌∷◌, ◌++◌, ◌==◌, find, take, length, count_by, option_and_then, is_some, if◌then◌else◌, Option, Some, None}
+use Rattle.std.specs.Prelude.{◌≡◌, ◌↔◌, ◌⊎◌, ℕ, ℤ, ◌<◌, ◌≤◌, Bool, true, false, not, ◌&&◌, List, [], ◌∷◌, ◌++◌, ◌==◌, take, length, count_by, option_and_then, is_some, if◌then◌else◌, Option, Some, None}
 use Rattle.std.specs.List.{list_all, list_any}
 use Rattle.aft_entries.specs.declared.entry.Entry.{Entry}
 use Rattle.table_model.specs.declared.command.Command.{Command}
@@ -15,9 +15,9 @@ use Rattle.table_model.specs.declared.reply.Reply.TheVariants as reply
 use Rattle.table_model.specs.declared.results.FibResult.{FibResult}
 use Rattle.table_model.specs.Event.{Event, is_flushed}
 use Rattle.table_model.specs.Election.{is_primary, primary, highest}
-use Rattle.table_model.specs.Jobs.{Task, Turn, Slot, tasks, slots, fib, work_key, work_of, turn_of, number_eq, number_lt, is_undone, is_out, is_waiting, is_programmed, effect, conflict}
+use Rattle.table_model.specs.Jobs.{Task, Turn, Slot, tasks, slots, fib, work_key, work_of, turn_of, task_at, number_eq, number_lt, is_undone, is_out, is_waiting, is_programmed, effect, conflict}
 use Rattle.table_model.specs.Legal.{IsLawful}
-use Rattle.table_model.specs.Results.{wanted_by, result_by, taken, results}
+use Rattle.table_model.specs.Results.{wanted_by, result_by, is_awaited, owed, taken, results}
 use Rattle.table_model.specs.Rib.{rib, verdict}
 use Rattle.table_model.specs.Reply.{reply_to, is_halted, may_flush}
 use Rattle.table_model.specs.Sessions.{is_live, params_of, deletes}
@@ -134,7 +134,7 @@ CompletesOnce config =
 abbrev pub programmed_by : List Event → Event → Option Task
 programmed_by past e =
     option_and_then
-    (λ turn. if is_programmed turn.outcome then find (λ task. number_eq task.job.number turn.number) (tasks past) else None)
+    (λ turn. if is_programmed turn.outcome then task_at turn.number (tasks past) else None)
     (turn_of e)
 
 abbrev pub effect_of : Option Task → List Entry → List Entry
@@ -159,7 +159,7 @@ abbrev pub ProgrammedIsThere : Config → Type 0
 ProgrammedIsThere config =
     (past : List Event) (number : JobNumber) (now : ℤ) (task : Task)
     → IsLawful config (event (Report number Programmed now) reply.Reported ∷ past)
-    → find (λ other. number_eq other.job.number number) (tasks past) ≡ Some task
+    → task_at number (tasks past) ≡ Some task
     → lookup (work_key task.job.work) (fib (event (Report number Programmed now) reply.Reported ∷ past)) ≡ left_by task.job.work
 
 abbrev pub is_fault : Command → Bool
@@ -184,7 +184,7 @@ ProgrammedWasReported =
     (past : List Event) (e : Event) (session : ℕ) (result : FibResult)
     → result_by session (tasks past) (turn_of e) ≡ Some result → result.failed ≡ None
     → (number : JobNumber) × (task : Task) × (e.command ≡ Report number Programmed result.now) × (e.reply ≡ reply.Reported)
-    × (find (λ other. number_eq number other.job.number) (tasks past) ≡ Some task) × (task.id ≡ result.id) × (wanted_by session task ≡ true)
+    × (task_at number (tasks past) ≡ Some task) × (task.id ≡ result.id) × (wanted_by session task ≡ true)
 
 abbrev pub batch_in : Reply → List FibResult
 batch_in (reply.Collected given outstanding) = given
@@ -206,9 +206,17 @@ abbrev pub AnsweredOnce : Config → Type 0
 AnsweredOnce config =
     (past : List Event) (session : ℕ) → IsLawful config past → handed past session ≡ take (taken past session) (results past session)
 
--- where a Collect answers that nothing is outstanding, each result was answered, and each job that wants one has one
+-- what a Collect answers as outstanding is what the session is owed right after it
+abbrev pub OutstandingIsOwed : Config → Type 0
+OutstandingIsOwed config =
+    (past : List Event) (session left : ℕ) (given : List FibResult)
+    → IsLawful config (event (Collect session) (reply.Collected given left) ∷ past)
+    → left ≡ owed (event (Collect session) (reply.Collected given left) ∷ past) session
+
+-- where a Collect answers that nothing is outstanding, no job is awaited, each result was answered, and each job that wants one has one
 abbrev pub AllAnswered : Config → Type 0
 AllAnswered config =
     (past : List Event) (session : ℕ) (given : List FibResult)
     → IsLawful config (event (Collect session) (reply.Collected given 0) ∷ past)
-    → (handed past session ++ given ≡ results past session) × (length (results past session) ≡ count_by (wanted_by session) (tasks past))
+    → (list_any (is_awaited session) (slots past) ≡ false)
+    × (handed past session ++ given ≡ results past session) × (length (results past session) ≡ count_by (wanted_by session) (tasks past))

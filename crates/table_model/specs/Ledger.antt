@@ -13,6 +13,8 @@ pub record Due : Type 0 where
   pub results : List FibResult
 
 pub record Ledger : Type 0 where
+  -- how many workers there are, from the start on
+  pub workers : ℕ
   pub undone : List Slot
   pub fib : List Entry
   pub due : List Due

@@ -1,11 +1,11 @@
 -- The results that a session collects.
-use Rattle.std.specs.Prelude.{ℕ, ◌+◌, ◌-◌, Bool, false, ◌&&◌, ◌==◌, List, [], ◌∷◌, ◌++◌, length, take, drop, find, count_by, Option, Some, None, option_and_then, option_to_list, if◌then◌else◌}
+use Rattle.std.specs.Prelude.{ℕ, ◌+◌, ◌-◌, Bool, false, ◌&&◌, ◌==◌, List, [], ◌∷◌, ◌++◌, length, take, drop, count_by, Option, Some, None, option_and_then, option_to_list, if◌then◌else◌}
 use Rattle.table_model.specs.declared.command.Command.TheVariants.{Collect}
 use Rattle.table_model.specs.declared.results.FibResult.{FibResult}
 use Rattle.table_model.specs.declared.reply.Reply.{Reply}
 use Rattle.table_model.specs.declared.reply.Reply.TheVariants.{Collected}
 use Rattle.table_model.specs.Event.{Event}
-use Rattle.table_model.specs.Jobs.{Task, Turn, Slot, Outcome, Faulted, PassedOver, tasks, slots, turn_of, number_eq, is_undone, skip_reason}
+use Rattle.table_model.specs.Jobs.{Task, Turn, Slot, Outcome, Faulted, PassedOver, tasks, slots, turn_of, task_at, is_undone, skip_reason}
 
 -- whose results the session collects
 abbrev pub wanted_by : ℕ → Task → Bool
@@ -24,7 +24,7 @@ result_by session made (Some turn) =
     if is_undone turn.outcome then None
     else option_and_then
     (λ task. if wanted_by session task then Some (record { id = task.id; failed = failure task turn.outcome; now = turn.now }) else None)
-    (find (λ task. number_eq turn.number task.job.number) made)
+    (task_at turn.number made)
 
 -- in the order of completion
 unfoldable pub results : List Event → ℕ → List FibResult
@@ -53,7 +53,11 @@ batch past session = take 256 (drop (taken past session) (results past session))
 abbrev pub is_awaited : ℕ → Slot → Bool
 is_awaited session slot = wanted_by session slot.task && is_undone slot.outcome
 
--- how many answers the session still waits for, after that
+-- how many answers the session waits for or hasn't collected
+unfoldable pub owed : List Event → ℕ → ℕ
+owed past session = count_by (is_awaited session) (slots past) + (length (results past session) - taken past session)
+
+-- how many answers it is owed once it has collected the batch
 unfoldable pub outstanding : List Event → ℕ → ℕ
 outstanding past session =
     count_by (is_awaited session) (slots past) + (length (results past session) - (taken past session + length (batch past session)))

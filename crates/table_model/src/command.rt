@@ -5,21 +5,27 @@ use aft_entries::{Ask, Kind};
 /// The network instances of a Flush or a Get, by number.
 #[derive(Clone, Copy, Debug, PartialEq, Eq)]
 pub enum Which {
+    /// Every instance.
     All,
+    /// The instance of this number.
     One(u16),
 }
 
 /// The kinds of entries of a Get.
 #[derive(Clone, Copy, Debug, PartialEq, Eq)]
 pub enum KindAsk {
+    /// Every kind.
     All,
+    /// This kind alone.
     Only(Kind),
 }
 
 /// By what a Flush is allowed: an election id, or an override of the election.
 #[derive(Clone, Copy, Debug, PartialEq, Eq)]
 pub enum FlushBy {
+    /// An election id, which must be at least the highest, and not 0.
     Id(u128),
+    /// Whatever the election says.
     Override,
 }
 
@@ -49,6 +55,7 @@ pub enum Command {
     Collect(u64),
     /// The session's Modify call is over.
     Leave(u64),
+    /// A Flush call asks that the entries of some instances go.
     Flush(FlushBy, Which, i64),
     /// A Get call asks for entries.
     Select(Which, KindAsk),
@@ -63,10 +70,10 @@ pub enum Command {
 /// What a table is set up with.
 #[derive(Clone, Copy, Debug, PartialEq, Eq)]
 pub struct Config {
-    /// How many network instances there are: their numbers lie below this.
+    /// How many network instances there are, 1 to 256: their numbers lie below this.
     pub instances: u16,
-    /// How many workers there are: their numbers lie below this.
+    /// How many workers there are, 1 to 16: their numbers lie below this.
     pub workers: u32,
-    /// The most entries that the table takes.
+    /// The most entries that the table takes, 1 to 1,000,000.
     pub limit: u64,
 }

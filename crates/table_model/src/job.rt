@@ -11,7 +11,9 @@ pub struct JobNumber {
 /// What a job does to the forwarding table.
 #[derive(Drop)]
 pub enum Work {
+    /// The entry is put in place of the one with its key.
     Install(Entry),
+    /// The key is taken out.
     Remove(Key),
 }
 
@@ -25,7 +27,9 @@ pub struct Job {
 /// What a device did with a job.
 #[derive(Clone, Copy, Debug, PartialEq, Eq)]
 pub enum Verdict {
+    /// The device did it.
     Programmed,
+    /// The device failed, and did nothing.
     DeviceFault,
 }
 
@@ -39,8 +43,8 @@ pub struct NewJob {
     pub owner: Option<u64>,
     /// Whether the owner wants its result.
     pub wants: bool,
-    /// The entry that left the table for it.
+    /// The entry that left the table for it, if one did. It has the job's key.
     pub displaced: Option<Entry>,
-    /// What the forwarding table will hold.
+    /// What the forwarding table will hold: the installed entry once more, and none of a removal.
     pub copy: Option<Entry>,
 }

@@ -1,5 +1,6 @@
 //! Sessions and their parameters.
 ghost use Rattle.std.specs.Prelude.{◌≡◌, ◌==◌, IfOk, filter, not};
+ghost use Rattle.std.specs.Option.{option_or};
 ghost use Rattle.table_model.specs.Sessions as history;
 
 use crate::event::{Event, is_began, is_left, is_params_set};
@@ -119,7 +120,7 @@ pub(crate) fn params_of(past: &[Event], session: u64) -> Option<Params>
 }
 
 fn or_else(here: Option<Params>, other: Option<Params>) -> Option<Params>
-    ensures { result ≡ history.or_else here other }
+    ensures { result ≡ option_or here other }
 {
     match here {
         Some(params) => Some(params),

@@ -1,6 +1,7 @@
 //! What of an entry is wrong by itself.
 ghost use Rattle.std.specs.Prelude.{◌≡◌, ◌==◌, ◌||◌, nat_lt, map};
 ghost use Rattle.std.specs.List.{list_any};
+ghost use Rattle.aft_entries.specs.Naming.{holds_twice};
 ghost use Rattle.table_model.specs.Table as history;
 
 use addr_text::{Prefix4, Prefix6};
@@ -86,7 +87,7 @@ fn has_zero(members: &[Member]) -> bool
 
 // Whether two members have the same next hop.
 fn has_twice(members: &[Member]) -> bool
-    ensures { result ≡ history.has_twice (map (λ member. member.hop) members.now) }
+    ensures { result ≡ holds_twice (λ a b. a == b) (map (λ member. member.hop) members.now) }
 {
     match members {
         [] => false,
