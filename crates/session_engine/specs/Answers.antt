@@ -12,6 +12,10 @@ use Rattle.table_model.specs.declared.reply.Reply.{Reply}
 use Rattle.table_model.specs.declared.reply.Reply.TheVariants as reply
 use Rattle.table_model.specs.declared.results.FibResult.{FibResult}
 
+-- how many bytes a message has at most: what a client of gRPC takes where nothing else is set
+abbrev pub LONGEST : ℕ
+LONGEST = 4194304
+
 abbrev pub response : List AftResult → Option ℕ → Option ℕ → ModifyResponse
 response results params election = record { results = results; params = params; election = election }
 

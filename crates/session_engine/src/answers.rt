@@ -1,4 +1,4 @@
-ghost use Rattle.std.specs.Prelude.{◌≡◌, ◌++◌, map, IfOk, OnErr, true};
+ghost use Rattle.std.specs.Prelude.{◌≡◌, ◌≤◌, ◌+◌, ◌++◌, map, length, IfOk, IfSome, OnOk, OnErr, true};
 ghost use Rattle.std.specs.Option.{option_map};
 ghost use Rattle.gribi_messages.specs.Response.{response_bytes};
 ghost use Rattle.session_engine.specs.Answers as said;
@@ -93,8 +93,10 @@ fn operation_result(n: &Numbering, id: u64, now: i64, failed: Option<Reason>) ->
     }
 }
 
+#[tactic(auto, using(crate::proofs::Sizes::short))]
 fn append_params_set(alloc: Global, n: &Numbering, out: &mut Vec<u8>) -> Result<bool, AllocError>
     ensures ok { IfOk result (λ is_owed. (is_owed ≡ true) × (out.new.items ≡ out.old.items ++ response_bytes n.now (said.params_set n.now))) }
+    ensures short { OnOk result (length out.new.items ≤ length out.old.items + said.LONGEST) }
     ensures err { OnErr result (out.new.items ≡ out.old.items) }
 {
     let response = ModifyResponse {
@@ -106,6 +108,7 @@ fn append_params_set(alloc: Global, n: &Numbering, out: &mut Vec<u8>) -> Result<
     Ok(true)
 }
 
+#[tactic(auto, using(crate::proofs::Sizes::short))]
 fn append_announced(
     alloc: Global,
     n: &Numbering,
@@ -113,6 +116,7 @@ fn append_announced(
     out: &mut Vec<u8>,
 ) -> Result<bool, AllocError>
     ensures ok { IfOk result (λ is_owed. (is_owed ≡ true) × (out.new.items ≡ out.old.items ++ response_bytes n.now (said.announced highest))) }
+    ensures short { OnOk result (length out.new.items ≤ length out.old.items + said.LONGEST) }
     ensures err { OnErr result (out.new.items ≡ out.old.items) }
 {
     let response = ModifyResponse {
@@ -131,6 +135,7 @@ fn append_collected(
     out: &mut Vec<u8>,
 ) -> Result<bool, AllocError>
     ensures ok { IfOk result (λ is_owed. said.Answers n.now is_owed (said.collected n.now given.now) out.old.items out.new.items) }
+    ensures short { OnOk result (length out.new.items ≤ length out.old.items + said.LONGEST) }
     ensures err { OnErr result (out.new.items ≡ out.old.items) }
 {
     if given.len() == 0 {
@@ -147,6 +152,7 @@ fn append_collected(
 
 fn append_result(n: &Numbering, one: &AftResult, out: &mut Vec<u8>) -> Result<bool, AllocError>
     ensures ok { IfOk result (λ is_owed. (is_owed ≡ true) × (out.new.items ≡ out.old.items ++ response_bytes n.now (said.one_result one.now))) }
+    ensures short { OnOk result (length out.new.items ≤ length out.old.items + said.LONGEST) }
     ensures err { OnErr result (out.new.items ≡ out.old.items) }
 {
     append_result_response(n, one, out)?;
@@ -164,6 +170,7 @@ pub fn append_answer(
     out: &mut Vec<u8>,
 ) -> Result<bool, AllocError>
     ensures ok { IfOk result (λ is_owed. said.Answers n.now is_owed (said.owed n.now id now reply.now) out.old.items out.new.items) }
+    ensures short { OnOk result (length out.new.items ≤ length out.old.items + said.LONGEST) }
     ensures err { OnErr result (out.new.items ≡ out.old.items) }
 {
     match reply {
@@ -187,7 +194,8 @@ pub fn answer_of(
     now: i64,
     reply: &Reply,
 ) -> Result<Option<Message>, AllocError>
-    ensures { IfOk result (λ message. message ≡ option_map (response_bytes n.now) (said.owed n.now id now reply.now)) }
+    ensures owed { IfOk result (λ message. message ≡ option_map (response_bytes n.now) (said.owed n.now id now reply.now)) }
+    ensures short { IfOk result (λ message. IfSome message (λ bytes. length bytes ≤ said.LONGEST)) }
 {
     let mut bytes = Vec::new(alloc);
     if append_answer(alloc, n, id, now, reply, &mut bytes)? {
