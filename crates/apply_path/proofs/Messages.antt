@@ -30,11 +30,6 @@ fault_appends s done m (Utf8 place) answer out e is =
     rw is (ap (λ (x : Option MessageFault). fate_by x (series_at s (history s done) (length done + 1) m)) e, refl)
 fault_appends s done m fault.NoMemory answer out e is = rw is record { part = []; others = (apply_answering s done m).written; bytes_are = refl; appended = sym (append-nil out) }
 
-pub unread_stands : (stands : List (List ℕ) → Type 0) (done : List (List ℕ)) (m : List ℕ) (f : MessageFault) (answer : Answered) → stands done → Unreads f answer → StandsAfter stands done m answer
-unread_stands stands done m (Wire place found) answer h is = rw is h
-unread_stands stands done m (Utf8 place) answer h is = rw is h
-unread_stands stands done m fault.NoMemory answer h is = rw is tt
-
 -- ---- one that is done
 
 pub history_more : (s : Setting) (past : List Event) (place : ℕ) (done : List (List ℕ)) (m : List ℕ) → history_from s past place (done ++ m ∷ []) ≡ (series_at s (history_from s past place done) (length done + place) m).past
