@@ -1,3 +1,4 @@
+pub mod Bare
 pub mod Checked
 pub mod MemberOrder
 pub mod Naming

@@ -1,6 +1,7 @@
 //! Entries of the forwarding tables: keys, payloads, and what an operation asks.
 #![tactic(auto)]
 
+mod bare;
 mod check;
 mod entry;
 mod instances;
@@ -9,6 +10,7 @@ mod laws;
 mod lists;
 mod operation;
 
+pub use bare::check_bare_hop;
 pub use check::check_entry;
 pub use entry::{Entry, GroupPayload, HopPayload, Payload, RoutePayload, refers, refs};
 pub use instances::{Instances, InstancesFault};

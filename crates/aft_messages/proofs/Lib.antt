@@ -11,3 +11,4 @@ pub mod Five
 pub mod Hops
 pub mod Again
 pub mod Printed
+mod IndexAlone

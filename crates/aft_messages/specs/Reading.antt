@@ -1,6 +1,6 @@
 -- What the bytes of an entry's message say (gRIBI, Protocol Buffers encoding). An entry's message holds its key, and
 -- its payload as an embedded message.
-use Rattle.std.specs.Prelude.{ℕ, List, [], map, Option, unwrap_or, if◌then◌else◌}
+use Rattle.std.specs.Prelude.{ℕ, Bool, true, false, List, [], ◌∷◌, map, Option, Some, None, unwrap_or, if◌then◌else◌}
 use Rattle.std.specs.Option.{option_map}
 use Rattle.std.specs.Str.{is_utf8}
 use Rattle.schema_numbers.specs.Numbers.{Numbers, field_of}
@@ -19,6 +19,12 @@ use Rattle.aft_entries.specs.declared.operation.RawEntry.TheVariants as entry
 -- The text of these bytes. They are UTF-8 wherever the message has no fault; other bytes are no text.
 unfoldable pub text_of : List ℕ → List ℕ
 text_of bytes = if is_utf8 bytes then bytes else []
+
+-- bytes are there, and not none
+abbrev pub has_some : Option (List ℕ) → Bool
+has_some None = false
+has_some (Some []) = false
+has_some (Some (b ∷ bytes)) = true
 
 -- the text of a field; an absent one is empty
 abbrev pub name_at : ℕ → List ℕ → List ℕ

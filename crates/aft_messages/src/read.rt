@@ -1,4 +1,4 @@
-ghost use Rattle.std.specs.Prelude.{◌≡◌, IfOk, map};
+ghost use Rattle.std.specs.Prelude.{◌≡◌, [], IfOk, map};
 ghost use Rattle.schema_numbers.specs.Numbers.{field_of};
 ghost use Rattle.schema_numbers.specs.declared.names.FieldName.TheVariants as field;
 ghost use Rattle.aft_entries.specs.declared.key.Kind.TheVariants as kind;
@@ -66,8 +66,35 @@ fn read_members(alloc: Global, n: &Numbering, bytes: &[u8]) -> Result<RawMembers
     }
 }
 
-#[tactic(auto, unfolding(crate::specs::Reading::hop_of))]
+fn no_labels(alloc: Global) -> RawLabels
+    ensures { result ≡ [] }
+{
+    RawLabels::from_vec(Vec::new(alloc))
+}
+
+#[tactic(auto, using(crate::proofs::IndexAlone::no_hop, crate::proofs::IndexAlone::no_bytes))]
+#[inline(always)]
 fn read_hop(alloc: Global, n: &Numbering, bytes: &[u8]) -> Result<RawHop, AllocError>
+    ensures { IfOk result (λ hop. hop ≡ hop_said n.now bytes.now) }
+{
+    // A next hop that is known by its index alone says nothing of these.
+    if bytes.is_empty() {
+        return Ok(RawHop {
+            ip: None,
+            mac: None,
+            interface: None,
+            subinterface: None,
+            source: None,
+            target: None,
+            push: no_labels(alloc),
+        });
+    }
+    read_hop_fields(alloc, n, bytes)
+}
+
+// The same of any bytes, field by field.
+#[tactic(auto, unfolding(crate::specs::Reading::hop_of))]
+fn read_hop_fields(alloc: Global, n: &Numbering, bytes: &[u8]) -> Result<RawHop, AllocError>
     ensures { IfOk result (λ hop. hop ≡ hop_said n.now bytes.now) }
 {
     let joined = embedded_at(alloc, n.field(FieldName::NextHopInterfaceRef), bytes)?;

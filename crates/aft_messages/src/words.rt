@@ -5,17 +5,23 @@ use aft_entries::Name;
 use proto_schema::{Joined, message_at, number_at, text_at};
 use std::alloc::{AllocError, Global};
 
-/// The text of these bytes, or want of memory. Bytes that are not UTF-8, which a message without a fault does not have
-/// in a known text, are read as no text.
+/// The text that these bytes are. Bytes that are not UTF-8, which a message without a fault does not have in a known text, are
+/// read as no text.
 #[tactic(auto, using(crate::proofs::Texts::utf8), unfolding(crate::specs::Reading::text_of))]
+pub fn text_in(bytes: &[u8]) -> &str
+    ensures { result.now ≡ text_of bytes.now }
+{
+    match std::str::from_utf8(bytes) {
+        Ok(text) => text,
+        Err(_) => "",
+    }
+}
+
+/// A copy of the text of these bytes, or want of memory. Bytes that are not UTF-8 are read as no text.
 pub fn read_text(alloc: Global, bytes: &[u8]) -> Result<Name, AllocError>
     ensures { IfOk result (λ name. name ≡ text_of bytes.now) }
 {
-    let text = match std::str::from_utf8(bytes) {
-        Ok(text) => text,
-        Err(_) => "",
-    };
-    Ok(Name::from_string(String::from_str(alloc, text)?))
+    Ok(Name::from_string(String::from_str(alloc, text_in(bytes))?))
 }
 
 /// An embedded message, its occurrences one behind the other, or want of memory. An absent one has no bytes.

@@ -19,6 +19,8 @@ use Rattle.table_model.specs.declared.reply.Reply.TheVariants as reply
 use Rattle.session_engine.specs.Answers.{Answers, owed, params_set, announced, one_result, operation_result}
 use Rattle.apply_path.specs.History.{owed_bytes}
 use Rattle.apply_path.specs.Serves.{is_collected}
+use Rattle.table_model.specs.Reply.{operate_reply}
+use Rattle.aft_entries.specs.declared.operation.Reason.{Reason}
 
 bytes_upto : (b : Bool) (k n m : ℕ) (xs : List ℕ) → length xs ≤ k + 1 → length (cond b (n ∷ []) (m ∷ xs)) ≤ suc k + 1
 bytes_upto true k n m xs le = omega arith
@@ -142,3 +144,23 @@ unspelled_in n is_owed (Some r) before after not_here a = absurd cc
 pub unspelled : (n : Numbers) (id : ℕ) (now : ℤ) (answer : Reply) (is_owed : Bool) (before after : List ℕ) → is_owed ≡ false → Answers n is_owed (owed n id now answer) before after → owed_bytes n id now answer ≡ []
 unfolding owed_bytes
 unspelled n id now answer is_owed before after not_here a = unspelled_in n is_owed (owed n id now answer) before after not_here a
+
+-- the same of the result of an operation
+result_owed : (n : Numbers) (id : ℕ) (now : ℤ) (failed : Option Reason) → owed n id now (operate_reply failed) ≡ Some (one_result (operation_result n id now failed))
+result_owed n id now None = refl
+result_owed n id now (Some reason) = refl
+
+result_kept : (failed : Option Reason) → is_collected (operate_reply failed) ≡ false
+result_kept None = refl
+result_kept (Some reason) = refl
+
+module _ (n : Numbers) (id : ℕ) (now : ℤ) (failed : Option Reason) (before after : List ℕ) (none : before ≡ []) (spelled_so : after ≡ before ++ response_bytes n (one_result (operation_result n id now failed))) where
+  result_is : after ≡ response_bytes n (one_result (operation_result n id now failed))
+  result_is = spelled_so ∙ ap (λ (x : List ℕ). x ++ response_bytes n (one_result (operation_result n id now failed))) none
+
+  pub result_short : length after < 2 ^ 32
+  result_short = rw result_is (answer-short n id now (operate_reply failed) (one_result (operation_result n id now failed)) (result_kept failed) (result_owed n id now failed))
+
+  pub result_item : item after ≡ owed_bytes n id now (operate_reply failed)
+  unfolding owed_bytes
+  result_item = ap item result_is ∙ sym (ap (λ (o : Option ModifyResponse). option_map_or (λ r. item (response_bytes n r)) o []) (result_owed n id now failed))

@@ -5,7 +5,7 @@ ghost use Rattle.session_engine.specs.Orders.{commands_of, operation_at, orders_
 ghost use Rattle.apply_path.specs.Fates.{config_of};
 ghost use Rattle.apply_path.specs.Serves.{Stood, Does, Unreads, Begun};
 
-use crate::step::do_command;
+use crate::step::{do_command, operate, tell_operation};
 use message_run::{Answered, Answerer};
 use proto_schema::{MessageFault, MessageKind, first_fault};
 use rib_core::RibCore;
@@ -74,8 +74,8 @@ fn do_operation(
 {
     let id = operation.id;
     let now = number as i64;
-    let command = Command::Operate(0, operation, now);
-    do_command(alloc, n, core, command, true, id, now, message, out)
+    let end = operate(core, operation, now);
+    tell_operation(alloc, n, id, now, end, message, out)
 }
 
 // Reads an operation, and does it.

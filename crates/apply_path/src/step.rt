@@ -1,17 +1,20 @@
-ghost use Rattle.std.specs.Prelude.{◌≡◌, ◌<◌, ◌^◌, ◌++◌, ◌∷◌, [], List, length, false, IfOk, OnOk, OnErr, IsTrue};
+ghost use Rattle.std.specs.Prelude.{◌≡◌, ◌<◌, ◌^◌, ◌++◌, ◌∷◌, [], List, length, true, false, IfOk, OnOk, OnErr, IsTrue};
 ghost use Rattle.grpc_framing.specs.Framing.{item};
 ghost use Rattle.rib_core.specs.Built.{is_built};
+ghost use Rattle.rib_core.specs.Ends.{end_reply};
+ghost use Rattle.table_model.specs.Reply.{operate_reply};
 ghost use Rattle.table_model.specs.Event.{Event, is_no_memory};
 ghost use Rattle.table_model.specs.declared.command.Config.{Config};
 ghost use Rattle.apply_path.specs.History.{is_operate, id_of, moment_of, owed_bytes, code_by as code_said};
 ghost use Rattle.apply_path.specs.Serves.{Stood, Told, Replied, Does, is_collected};
 
+use aft_entries::Reason;
 use message_run::Answered;
-use rib_core::RibCore;
+use rib_core::{OperateEnd, RibCore};
 use schema_numbers::Numbering;
-use session_engine::{append_answer, end_of};
+use session_engine::{append_answer, append_operation_result, end_of};
 use std::alloc::{AllocError, Global};
-use table_model::{Command, Reply};
+use table_model::{Command, Operation, Reply};
 
 /// How many events a table of `apply` has before it takes no more: an input's bytes give far fewer.
 const MOST_EVENTS: u64 = 2_305_843_009_213_693_952;
@@ -103,6 +106,108 @@ pub fn tell(
             },
         },
     }
+}
+
+// Appends the result of an operation as it stands in the output, spelled in `message` first.
+fn append_operation_item(
+    n: &Numbering,
+    id: u64,
+    now: i64,
+    failed: Option<Reason>,
+    message: &mut Vec<u8>,
+    out: &mut Vec<u8>,
+) -> Result<(), AllocError>
+    ensures ok { OnOk result (out.new.items ≡ out.old.items ++ owed_bytes n.now id now (operate_reply failed)) }
+    ensures err { OnErr result (out.new.items ≡ out.old.items) }
+{
+    message.clear();
+    append_operation_result(n, id, now, failed, message)?;
+    append_item(out, message)
+}
+
+// Appends the result of an operation that failed for this reason, if any. It ends no stream.
+#[inline(always)]
+fn tell_result(
+    n: &Numbering,
+    id: u64,
+    now: i64,
+    failed: Option<Reason>,
+    message: &mut Vec<u8>,
+    out: &mut Vec<u8>,
+) -> Answered
+    ensures { Told n.now true id now (operate_reply failed) result out.old.items out.new.items }
+{
+    match append_operation_item(n, id, now, failed, message, out) {
+        Ok(()) => Answered::GoesOn,
+        Err(_) => Answered::NoMemory,
+    }
+}
+
+/// Appends the answer to an operation that ended so, and tells whether it ends the stream.
+#[inline(always)]
+pub fn tell_operation(
+    alloc: Global,
+    n: &Numbering,
+    id: u64,
+    now: i64,
+    end: OperateEnd,
+    message: &mut Vec<u8>,
+    out: &mut Vec<u8>,
+) -> Answered
+    ensures { Told n.now true id now (end_reply end) result out.old.items out.new.items }
+{
+    match end {
+        OperateEnd::Done => tell_result(n, id, now, None, message, out),
+        OperateEnd::Failed(reason) => tell_result(n, id, now, Some(reason), message, out),
+        OperateEnd::Gone => tell_away(alloc, n, id, now, message, out),
+        OperateEnd::NoParams => tell_without_params(alloc, n, id, now, message, out),
+        OperateEnd::NoMemory => Answered::NoMemory,
+    }
+}
+
+#[inline(never)]
+fn tell_away(
+    alloc: Global,
+    n: &Numbering,
+    id: u64,
+    now: i64,
+    message: &mut Vec<u8>,
+    out: &mut Vec<u8>,
+) -> Answered
+    ensures { Told n.now true id now Reply.Gone result out.old.items out.new.items }
+{
+    tell(alloc, n, true, id, now, &Reply::Gone, message, out)
+}
+
+#[inline(never)]
+fn tell_without_params(
+    alloc: Global,
+    n: &Numbering,
+    id: u64,
+    now: i64,
+    message: &mut Vec<u8>,
+    out: &mut Vec<u8>,
+) -> Answered
+    ensures { Told n.now true id now Reply.NoParams result out.old.items out.new.items }
+{
+    tell(alloc, n, true, id, now, &Reply::NoParams, message, out)
+}
+
+// Lets an operation go.
+fn discard_operation(operation: Operation) {
+    let _ = operation;
+}
+
+/// How an operation of the session ends, unless there is no room for another event.
+#[inline(always)]
+pub fn operate(core: &mut RibCore, operation: Operation, now: i64) -> OperateEnd
+    ensures room { Replied core.old (Command.Operate 0 operation now) (end_reply result) core.new }
+{
+    if core.events() >= MOST_EVENTS {
+        discard_operation(operation);
+        return OperateEnd::NoMemory;
+    }
+    core.operate(0, operation, now)
 }
 
 // Lets a command go.

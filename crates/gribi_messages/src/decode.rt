@@ -1,4 +1,4 @@
-ghost use Rattle.std.specs.Prelude.{◌≡◌, ℕ, List, IfOk, MatchOption, map, unwrap_or};
+ghost use Rattle.std.specs.Prelude.{◌≡◌, ℕ, List, IfOk, IfSome, MatchOption, map, unwrap_or};
 ghost use Rattle.std.specs.Option.{option_map};
 ghost use Rattle.proto_schema.specs.declared.schema.MessageKind.TheVariants as message;
 ghost use Rattle.proto_schema.specs.Legal.{first_fault as fault_of};
@@ -7,15 +7,18 @@ ghost use Rattle.proto_schema.specs.Chosen.{chosen_seen};
 ghost use Rattle.schema_numbers.specs.Numbers.{field_of};
 ghost use Rattle.aft_messages.specs.Decodes.{Decodes};
 ghost use Rattle.aft_messages.specs.Reading.{entry_of as entry_said};
+ghost use Rattle.aft_entries.specs.Bare.{bare_raw, bare_operation};
+ghost use Rattle.aft_entries.specs.declared.operation.RawEntry.TheVariants as entry;
+ghost use Rattle.gribi_messages.specs.Heard.{operation_in};
 ghost use Rattle.gribi_messages.specs.Request.{params_of as params_said, uint128_of as uint128_said, op_of as op_said, operation_of as operation_said, member_entry, unread_member as unread_said, entry_members, modify_request, operations_of as operations_said, parameters_of as parameters_said};
 
-use crate::heard::{hear, hear_asks, numbers_at};
+use crate::heard::{Heard, hear, hear_asks, numbers_at};
 use crate::lists::RawOperations;
 use crate::pieces::OperationPieces;
 use crate::request::{ModifyRequest, RawParams};
 use aft_entries::{Kind, Op, RawEntry, RawOperation};
-use aft_messages::{read_entry, read_text};
-use proto_schema::{Chosen, MessageFault, MessageKind, first_fault, message_at, number_at};
+use aft_messages::{bare_hop_index, read_entry, read_text, text_in};
+use proto_schema::{Chosen, Joined, MessageFault, MessageKind, first_fault, message_at, number_at};
 use schema_numbers::{FieldName, Numbering, ValueName};
 use std::alloc::{AllocError, Global};
 
@@ -109,17 +112,40 @@ fn entry_of(alloc: Global, n: &Numbering, member: &Chosen<'_>) -> Result<RawEntr
     }
 }
 
-/// What the bytes of an operation say.
+/// Hears the fields of an operation, which together are what it says.
 #[tactic(auto, unfolding(crate::specs::Request::operation_of))]
-pub fn operation_of(alloc: Global, n: &Numbering, bytes: &[u8]) -> Result<RawOperation, AllocError>
-    ensures { IfOk result (λ operation. operation ≡ operation_said n.now bytes.now) }
+#[inline(always)]
+pub fn hear_operation<'a>(
+    alloc: Global,
+    n: &Numbering,
+    bytes: &'a [u8],
+) -> Result<Heard<'a>, AllocError>
+    ensures { IfOk result (λ heard. operation_in n.now heard ≡ operation_said n.now bytes.now) }
 {
-    let heard = hear(alloc, n, bytes)?;
-    let instance = read_text(alloc, heard.instance.unwrap_or(&[]))?;
-    let election = match &heard.election {
+    hear(alloc, n, bytes)
+}
+
+// The election id in the message that was heard.
+#[inline(always)]
+fn election_heard(n: &Numbering, election: &Option<Joined<'_>>) -> Option<u128>
+    ensures { result ≡ option_map (uint128_said n.now) election.now }
+{
+    match election {
         None => None,
         Some(id) => Some(uint128_of(n, id.as_bytes())),
-    };
+    }
+}
+
+/// What was heard of an operation, put together.
+pub fn operation_heard(
+    alloc: Global,
+    n: &Numbering,
+    heard: &Heard<'_>,
+) -> Result<RawOperation, AllocError>
+    ensures { IfOk result (λ operation. operation ≡ operation_in n.now heard.now) }
+{
+    let instance = read_text(alloc, heard.instance.unwrap_or(&[]))?;
+    let election = election_heard(n, &heard.election);
     let id = heard.id.unwrap_or(0);
     let op = op_of(n, heard.op.unwrap_or(0));
     match &heard.entry {
@@ -140,6 +166,58 @@ pub fn operation_of(alloc: Global, n: &Numbering, bytes: &[u8]) -> Result<RawOpe
             }),
             Err(lack) => Err(lack),
         },
+    }
+}
+
+/// What the bytes of an operation say.
+pub fn operation_of(alloc: Global, n: &Numbering, bytes: &[u8]) -> Result<RawOperation, AllocError>
+    ensures { IfOk result (λ operation. operation ≡ operation_said n.now bytes.now) }
+{
+    match hear_operation(alloc, n, bytes) {
+        Ok(heard) => operation_heard(alloc, n, &heard),
+        Err(lack) => Err(lack),
+    }
+}
+
+/// An operation on a next hop of which nothing is said but its index.
+#[derive(Clone, Copy, Drop)]
+pub struct BareHop<'a> {
+    pub id: u64,
+    pub instance: &'a str,
+    pub op: Option<Op>,
+    pub index: u64,
+    pub election: Option<u128>,
+}
+
+// The index of the next hop that the member is, where the member says nothing else.
+#[inline(always)]
+fn index_alone(n: &Numbering, member: &Chosen<'_>) -> Option<u64>
+    ensures { IfSome result (λ index. member_entry n.now (chosen_seen member.now) ≡ entry.Hop index bare_raw) }
+{
+    match kind_of(n, member.number) {
+        Some(Kind::Hop) => bare_hop_index(n, member.bytes.as_bytes()),
+        _ => None,
+    }
+}
+
+/// The operation that was heard, where it is on a next hop of which nothing is said but its index.
+#[inline(always)]
+pub fn bare_hop_in<'a>(n: &Numbering, heard: &Heard<'a>) -> Option<BareHop<'a>>
+    ensures { IfSome result (λ bare. operation_in n.now heard.now ≡ bare_operation bare.id bare.instance.now bare.op bare.index bare.election) }
+{
+    let member = match &heard.entry {
+        None => return None,
+        Some(member) => member,
+    };
+    match index_alone(n, member) {
+        None => None,
+        Some(index) => Some(BareHop {
+            id: heard.id.unwrap_or(0),
+            instance: text_in(heard.instance.unwrap_or(&[])),
+            op: op_of(n, heard.op.unwrap_or(0)),
+            index,
+            election: election_heard(n, &heard.election),
+        }),
     }
 }
 

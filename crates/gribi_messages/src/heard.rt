@@ -13,7 +13,21 @@ use proto_wire::{Field, FieldReader, Next};
 use schema_numbers::{FieldName, Numbering};
 use std::alloc::{AllocError, Global};
 
-// Adds the occurrence in this field, where it is one.
+// Adds an occurrence behind others.
+#[inline(never)]
+fn join_more<'a>(
+    alloc: Global,
+    joined: &mut Option<Joined<'a>>,
+    piece: &'a [u8],
+) -> Result<(), AllocError>
+    ensures { OnOk result (joined.new ≡ joined_with joined.old (Some piece.now)) }
+{
+    *joined = Some(join(alloc, joined.take(), piece)?);
+    Ok(())
+}
+
+// Adds the occurrence in this field, where it is one. Most stand alone.
+#[inline(always)]
 fn join_next<'a>(
     alloc: Global,
     wanted: u32,
@@ -23,12 +37,30 @@ fn join_next<'a>(
     ensures { OnOk result (joined.new ≡ joined_with joined.old (piece_in wanted field.now.number (value_of field.now.value))) }
 {
     if let Some(piece) = piece_of(wanted, field) {
-        *joined = Some(join(alloc, joined.take(), piece)?);
+        if joined.is_some() {
+            return join_more(alloc, joined, piece);
+        }
+        *joined = Some(Joined::new(piece));
     }
     Ok(())
 }
 
-// Adds the member in this field, where it is one.
+// Adds a member behind others.
+#[inline(never)]
+fn choose_more<'a>(
+    alloc: Global,
+    chosen: &mut Option<Chosen<'a>>,
+    number: u32,
+    piece: &'a [u8],
+) -> Result<(), AllocError>
+    ensures { OnOk result (option_map chosen_seen chosen.new ≡ chosen_with (option_map chosen_seen chosen.old) (Some (number, piece.now))) }
+{
+    *chosen = Some(choose(alloc, chosen.take(), number, piece)?);
+    Ok(())
+}
+
+// Adds the member in this field, where it is one. Most stand alone.
+#[inline(always)]
 fn choose_next<'a>(
     alloc: Global,
     among: &[u32],
@@ -38,7 +70,13 @@ fn choose_next<'a>(
     ensures { OnOk result (option_map chosen_seen chosen.new ≡ chosen_with (option_map chosen_seen chosen.old) (member_in among.now field.now.number (value_of field.now.value))) }
 {
     if let Some(piece) = member_of(among, field) {
-        *chosen = Some(choose(alloc, chosen.take(), field.number, piece)?);
+        if chosen.is_some() {
+            return choose_more(alloc, chosen, field.number, piece);
+        }
+        *chosen = Some(Chosen {
+            number: field.number,
+            bytes: Joined::new(piece),
+        });
     }
     Ok(())
 }

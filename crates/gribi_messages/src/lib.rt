@@ -19,7 +19,10 @@ mod writers;
 
 pub use aft_entries::{Name, Op, RawEntry, RawOperation};
 pub use asks::{FlushAsk, FlushRequest, FlushResponse, GetRequest, InstanceAsk};
-pub use decode::{asks_of, decode_modify, op_of, operation_of, uint128_of};
+pub use decode::{
+    BareHop, asks_of, bare_hop_in, decode_modify, hear_operation, op_of, operation_heard,
+    operation_of, uint128_of,
+};
 pub use flush::{decode_flush, decode_flush_response, encode_flush_request, encode_flush_response};
 pub use get::{decode_get, encode_get_request};
 pub use heard::{Heard, hear};

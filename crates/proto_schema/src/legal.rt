@@ -21,7 +21,7 @@ pub enum MessageFault {
 
 // The first fault of a field's bytes, which begin at `base`; the field's tag is at `place`.
 #[cycle(legal)]
-#[tactic(auto, using(crate::proofs::Faults::utf8), unfolding(crate::specs::Legal::deeper_than))]
+#[tactic(auto, using(crate::proofs::Faults::utf8, crate::proofs::Nothing::no_fault), unfolding(crate::specs::Legal::deeper_than))]
 fn fault_of_bytes(
     depth: u32,
     n: &Numbering,
@@ -39,7 +39,8 @@ fn fault_of_bytes(
             Err(_) => Some(MessageFault::Utf8(place)),
         },
         FieldKind::Message(message) => {
-            if depth == 0 {
+            // Nothing is wrong with no bytes.
+            if depth == 0 || bytes.is_empty() {
                 None
             } else {
                 fault_within(depth - 1, n, message, base, bytes)

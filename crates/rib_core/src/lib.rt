@@ -5,4 +5,4 @@
 
 mod machine;
 
-pub use machine::RibCore;
+pub use machine::{OperateEnd, RibCore};

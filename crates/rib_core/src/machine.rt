@@ -1,4 +1,4 @@
-ghost use Rattle.std.specs.Prelude.{◌≡◌, ◌≢◌, if◌then◌else◌, true, ◌+◌, ◌<◌, ◌≤◌, ◌^◌, List, [], length, IfOk, IsTrue, OnOk, OnErr};
+ghost use Rattle.std.specs.Prelude.{◌≡◌, ◌≢◌, if◌then◌else◌, true, ◌+◌, ◌<◌, ◌≤◌, ◌^◌, List, [], length, IfOk, IsTrue, OnOk, OnErr, Some, option_map};
 ghost use Rattle.aft_entries.specs.Shapes.{fits};
 ghost use Rattle.table_model.specs.Event.{Event, events};
 ghost use Rattle.table_model.specs.Legal.{is_formed_ask};
@@ -8,7 +8,7 @@ ghost use Rattle.rib_core.specs.Decisions.{purges_in, refuse_in, verdict_in, Acc
 ghost use Rattle.rib_core.specs.Decisions as decisions;
 ghost use Rattle.table_model.specs.Election as election;
 ghost use Rattle.table_model.specs.Rib as rib;
-ghost use Rattle.rib_core.specs.Ends.{announce_reply};
+ghost use Rattle.rib_core.specs.Ends.{announce_reply, end_reply};
 ghost use Rattle.session_params.specs.Book.{set_reply};
 
 use aft_entries::{Ask, Entry, Reason};
@@ -19,6 +19,19 @@ use session_params::{ParamBook, SetEnd};
 use std::alloc::{AllocError, Global};
 use std::marker::Model;
 use table_model::{AckType, AskedParams, Command, Config, Operation, Persistence, Reply};
+
+/// How an operation ended.
+#[derive(Clone, Copy, Debug, PartialEq, Eq)]
+pub enum OperateEnd {
+    /// The session isn't live.
+    Gone,
+    /// The session has no accepted parameters.
+    NoParams,
+    Failed(Reason),
+    Done,
+    /// Memory ran out, and nothing changed.
+    NoMemory,
+}
 
 /// The table of a gRIBI server: its sessions, its election and its entries, behind one call. It is seen by the
 /// histories of commands and replies that it may stand for.
@@ -90,7 +103,9 @@ impl RibCore {
             Command::Begin => self.begin(),
             Command::SetParams(session, asked) => self.set_params(session, served(asked)),
             Command::Announce(session, id) => self.announce(session, id),
-            Command::Operate(session, operation, now) => self.operate(session, operation, now),
+            Command::Operate(session, operation, now) => {
+                reply_to_operate(self.operate(session, operation, now))
+            }
             Command::Leave(session) => self.leave(session),
             _ => unreachable!(),
         }
@@ -145,37 +160,39 @@ impl RibCore {
         reply_to_announce(self.election.announce(session, id))
     }
 
-    fn operate(&mut self, session: u64, operation: Operation, now: i64) -> Reply
+    /// Answers an operation as `act` does, without the room that other replies take.
+    pub fn operate(&mut self, session: u64, operation: Operation, now: i64) -> OperateEnd
         requires { self.old.count < 2 ^ 62 }
-        ensures stands { Acts self.old (Command.Operate session operation now) result self.new }
+        ensures stands { Acts self.old (Command.Operate session operation now) (end_reply result) self.new }
         ensures config { self.new.config ≡ self.old.config }
-        ensures refused { result ≡ Reply.NoMemory → self.new ≡ self.old }
+        ensures refused { result ≡ OperateEnd.NoMemory → self.new ≡ self.old }
         ensures count { self.new.count ≤ self.old.count + 1 }
     {
         let _ = now;
         formed_by_type(&operation.ask);
         match self.refuse(session, &operation) {
-            Some(reply) => {
+            Some(end) => {
                 discard(operation);
                 self.events += 1;
-                reply
+                end
             }
             None => match self.accept(operation) {
-                Ok(()) => Reply::RibDone,
-                Err(_) => Reply::NoMemory,
+                Ok(()) => OperateEnd::Done,
+                Err(_) => OperateEnd::NoMemory,
             },
         }
     }
 
-    // The reply to an operation that isn't done.
-    fn refuse(&self, session: u64, operation: &Operation) -> Option<Reply>
-        ensures { result ≡ refuse_in self.now session operation.now }
+    // How an operation ends that isn't done.
+    fn refuse(&self, session: u64, operation: &Operation) -> Option<OperateEnd>
+        ensures reply { option_map end_reply result ≡ refuse_in self.now session operation.now }
+        ensures never { result ≢ Some OperateEnd.NoMemory }
     {
         match self.sessions.seat(session) {
-            None => Some(Reply::Gone),
+            None => Some(OperateEnd::Gone),
             Some(seat) => {
                 if seat.params.is_none() {
-                    return Some(Reply::NoParams);
+                    return Some(OperateEnd::NoParams);
                 }
                 failed(self.verdict(session, operation))
             }
@@ -302,6 +319,18 @@ fn reply_to_set(end: SetEnd) -> Reply
     }
 }
 
+fn reply_to_operate(end: OperateEnd) -> Reply
+    ensures { result ≡ end_reply end }
+{
+    match end {
+        OperateEnd::Gone => Reply::Gone,
+        OperateEnd::NoParams => Reply::NoParams,
+        OperateEnd::Failed(reason) => Reply::RibFailed(reason),
+        OperateEnd::Done => Reply::RibDone,
+        OperateEnd::NoMemory => Reply::NoMemory,
+    }
+}
+
 fn reply_to_announce(end: AnnounceEnd) -> Reply
     ensures { result ≡ announce_reply end }
 {
@@ -338,11 +367,12 @@ fn is_id(given: Option<u128>, highest: u128) -> bool
     }
 }
 
-fn failed(reason: Option<Reason>) -> Option<Reply>
-    ensures { result ≡ decisions.failed reason }
+fn failed(reason: Option<Reason>) -> Option<OperateEnd>
+    ensures reply { option_map end_reply result ≡ decisions.failed reason }
+    ensures never { result ≢ Some OperateEnd.NoMemory }
 {
     match reason {
-        Some(reason) => Some(Reply::RibFailed(reason)),
+        Some(reason) => Some(OperateEnd::Failed(reason)),
         None => None,
     }
 }

@@ -159,6 +159,21 @@ fn append_result(n: &Numbering, one: &AftResult, out: &mut Vec<u8>) -> Result<bo
     Ok(true)
 }
 
+/// Appends the ModifyResponse that tells the result of an operation, with its id and its moment, in nanoseconds. Without memory
+/// `out` is unchanged.
+pub fn append_operation_result(
+    n: &Numbering,
+    id: u64,
+    now: i64,
+    failed: Option<Reason>,
+    out: &mut Vec<u8>,
+) -> Result<(), AllocError>
+    ensures ok { OnOk result (out.new.items ≡ out.old.items ++ response_bytes n.now (said.one_result (said.operation_result n.now id now failed))) }
+    ensures err { OnErr result (out.new.items ≡ out.old.items) }
+{
+    append_result_response(n, &operation_result(n, id, now, failed), out)
+}
+
 /// Appends the ModifyResponse that is owed for a reply, and tells whether one is. An operation's result bears its id and its
 /// moment, in nanoseconds.
 pub fn append_answer(

@@ -6,7 +6,7 @@ mod answers;
 mod ends;
 mod orders;
 
-pub use answers::{Message, answer_of, append_answer};
+pub use answers::{Message, answer_of, append_answer, append_operation_result};
 pub use ends::end_of;
 pub use gribi_messages::OperationPieces;
 pub use orders::{

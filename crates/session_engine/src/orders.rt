@@ -3,12 +3,14 @@ ghost use Rattle.std.specs.Option.{option_map};
 ghost use Rattle.proto_schema.specs.declared.schema.MessageKind.TheVariants as message_kind;
 ghost use Rattle.proto_schema.specs.Legal.{first_fault};
 ghost use Rattle.aft_messages.specs.Decodes.{Decodes};
+ghost use Rattle.aft_entries.specs.Bare.{bare_operation as bare_hop_operation};
+ghost use Rattle.gribi_messages.specs.Heard.{operation_in};
 ghost use Rattle.session_engine.specs.Orders as said;
 
-use aft_entries::{Instances, RawOperation, check_entry};
+use aft_entries::{Instances, RawOperation, check_bare_hop, check_entry};
 use gribi_messages::{
-    MessageFault, OperationPieces, RawOperations, RawParams, asks_of, decode_modify,
-    operation_of as raw_operation_of,
+    BareHop, Heard, MessageFault, OperationPieces, RawOperations, RawParams, asks_of, bare_hop_in,
+    decode_modify, hear_operation, operation_heard as raw_operation_heard,
 };
 use schema_numbers::{Numbering, ValueName};
 use std::alloc::{AllocError, Global};
@@ -158,6 +160,32 @@ pub fn read_orders(alloc: Global, setting: &Setting, message: &[u8]) -> Result<O
     }
 }
 
+// What was heard of an operation orders.
+fn operation_heard(
+    alloc: Global,
+    setting: &Setting,
+    heard: &Heard<'_>,
+) -> Result<Operation, AllocError>
+    ensures { IfOk result (λ operation. operation ≡ said.operation_of setting.now.instances (operation_in setting.now.numbering heard.now)) }
+{
+    match raw_operation_heard(alloc, &setting.numbering, heard) {
+        Ok(raw) => operation_of(alloc, &setting.instances, raw),
+        Err(lack) => Err(lack),
+    }
+}
+
+// The same of a next hop of which nothing is said but its index.
+#[inline(always)]
+fn bare_operation(alloc: Global, instances: &Instances, bare: &BareHop<'_>) -> Operation
+    ensures { result ≡ said.operation_of instances.now (bare_hop_operation bare.now.id bare.now.instance.now bare.now.op bare.now.index bare.now.election) }
+{
+    Operation {
+        id: bare.id,
+        election: bare.election,
+        ask: check_bare_hop(alloc, instances, bare.op, bare.instance, bare.index),
+    }
+}
+
 /// What the bytes of an operation order, checked as far as it stands by itself. They are to have no fault.
 #[inline(always)]
 pub fn read_operation(
@@ -167,9 +195,13 @@ pub fn read_operation(
 ) -> Result<Operation, AllocError>
     ensures { IfOk result (λ operation. operation ≡ said.operation_at setting.now bytes.now) }
 {
-    match raw_operation_of(alloc, &setting.numbering, bytes) {
-        Ok(raw) => operation_of(alloc, &setting.instances, raw),
+    let n = &setting.numbering;
+    match hear_operation(alloc, n, bytes) {
         Err(lack) => Err(lack),
+        Ok(heard) => match bare_hop_in(n, &heard) {
+            Some(bare) => Ok(bare_operation(alloc, &setting.instances, &bare)),
+            None => operation_heard(alloc, setting, &heard),
+        },
     }
 }
 
