@@ -36,7 +36,7 @@ pub struct Prefix4 {
     pub len: u8,
 }
 
-/// An IPv6 prefix.
+/// An IPv6 prefix: the address, and the count of its leading bits that matter.
 #[derive(Clone, Copy, Debug, PartialEq, Eq, PartialOrd, Ord)]
 pub struct Prefix6 {
     pub bits: u128,

@@ -10,7 +10,7 @@ use Rattle.aft_entries.specs.declared.key.Key.{Key}
 use Rattle.aft_entries.specs.declared.key.KeyName.{KeyName}
 use Rattle.aft_entries.specs.declared.key.KeyName.TheVariants as name
 use Rattle.aft_entries.specs.declared.operation.Ask.{Ask}
-use Rattle.aft_entries.specs.declared.operation.Ask.TheVariants.{Remove, Bad}
+use Rattle.aft_entries.specs.declared.operation.Ask.TheVariants.{Put, Remove, Bad}
 use Rattle.aft_entries.specs.declared.operation.Op.{Op}
 use Rattle.aft_entries.specs.declared.operation.Op.TheVariants.{Add, Replace, Delete}
 use Rattle.aft_entries.specs.declared.operation.RawEntry.{RawEntry}
@@ -20,7 +20,7 @@ use Rattle.aft_entries.specs.declared.operation.Reason.{Reason}
 use Rattle.aft_entries.specs.Checked.{checked, checked_parts, name_of, payload_of, is_unsupported}
 use Rattle.aft_entries.specs.Steps.{key_parts, key_asked, put_or}
 use Rattle.aft_entries.specs.Naming.{number_of}
-use Rattle.aft_entries.specs.Shapes.{fits}
+use Rattle.aft_entries.specs.Shapes.{Keyed, fits}
 
 abbrev pub by_op : Op → Key → Option Payload → Ask
 by_op Add key payload = put_or key false payload
@@ -129,3 +129,31 @@ reads_fit instances own (Some (raw.V6 prefix route)) n p e d = route_fits name.V
 reads_fit instances own (Some (raw.Label label route)) n p e d = route_fits name.Label (λ x r. refl) _ _ n p e (sym d)
 reads_fit instances own (Some raw.Mac) n p e d = cc
 reads_fit instances own (Some raw.Policy) n p e d = cc
+
+put_fits : (op : Option Op) (unsupported : Bool) (instance : Option ℕ) (name : Option KeyName) (payload : Option Payload) (entry : Keyed) (replace : Bool)
+    → ((n : KeyName) (p : Payload) → name ≡ Some n → payload ≡ Some p → fits n p ≡ true)
+    → checked_parts op unsupported instance name payload ≡ Put entry replace → fits entry.key.name entry.payload ≡ true
+put_fits None unsupported instance name payload entry replace h e = absurd cc
+put_fits (Some op) true instance name payload entry replace h e = absurd cc
+put_fits (Some op) false None name payload entry replace h e = absurd cc
+put_fits (Some op) false (Some instance) None payload entry replace h e = absurd cc
+put_fits (Some Add) false (Some instance) (Some name) None entry replace h e = absurd cc
+put_fits (Some Add) false (Some instance) (Some name) (Some payload) entry replace h e =
+    let same : record { key = record { instance = instance; name = name }; payload = payload } ≡ entry = cc in rw (← same) (h name payload refl refl)
+put_fits (Some Replace) false (Some instance) (Some name) None entry replace h e = absurd cc
+put_fits (Some Replace) false (Some instance) (Some name) (Some payload) entry replace h e =
+    let same : record { key = record { instance = instance; name = name }; payload = payload } ≡ entry = cc in rw (← same) (h name payload refl refl)
+put_fits (Some Delete) false (Some instance) (Some name) payload entry replace h e = absurd (delete_in payload e)
+  where
+    delete_in : (o : Option Payload) → checked_parts (Some Delete) false (Some instance) (Some name) o ≡ Put entry replace → ⊥
+    delete_in None e = cc
+    delete_in (Some payload) e = cc
+
+-- an entry that is put has a payload of its key's kind
+pub checked_fits : (instances : List (List ℕ)) (operation : RawOperation) (entry : Keyed) (replace : Bool) → checked instances operation ≡ Put entry replace → fits entry.key.name entry.payload ≡ true
+unfolding checked
+checked_fits instances operation entry replace e =
+    let number = number_of instances operation.instance in
+    let own = unwrap_or number 0 in
+    put_fits operation.op (is_unsupported operation.entry) number (name_of operation.entry) (payload_of instances own operation.entry) entry replace
+    (λ n p named read. reads_fit instances own operation.entry n p named (sym read)) e

@@ -15,7 +15,7 @@ pub use check::check_entry;
 pub use entry::{Entry, GroupPayload, HopPayload, Payload, RoutePayload, refers, refs};
 pub use instances::{Instances, InstancesFault};
 pub use key::{Key, KeyName, Kind, shard};
-pub use laws::{members_are_sorted, same_payloads_are_equal};
+pub use laws::{checked_entries_fit, members_are_sorted, same_payloads_are_equal};
 pub use lists::{Keys, Labels, Member, Members, Name};
 pub use operation::{
     Act, Ask, Op, RawEntry, RawGroup, RawHop, RawLabels, RawMembers, RawOperation, RawRoute,

@@ -3,3 +3,4 @@ pub mod Steps
 pub mod Messages
 pub mod Runs
 pub mod Rows
+pub mod Lawful

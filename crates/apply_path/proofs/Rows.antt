@@ -3,7 +3,7 @@ use Rattle.std.proofs.Common.{◌≡◌, ℕ, ◌+◌, cond, List, [], ◌∷◌
 use Rattle.std.specs.Prelude.{is_some}
 use Rattle.std.specs.List.{flat_map}
 use Rattle.std.specs.Option.{option_map, option_or}
-use Rattle.std.proofs.lemmas.List.{length_push}
+use Rattle.std.proofs.lemmas.List.{append-nil, length_push}
 use Rattle.schema_numbers.specs.Numbers.{Numbers}
 use Rattle.proto_schema.specs.declared.legal.MessageFault.{MessageFault}
 use Rattle.proto_schema.specs.declared.legal.MessageFault.TheVariants.{Wire, Utf8}
@@ -16,7 +16,7 @@ use Rattle.table_model.specs.Event.{Event}
 use Rattle.message_run.specs.Answering.{Course, Reply, course_with, course_from}
 use Rattle.apply_path.specs.History.{event, up_to_end, first_end, code_of, answer_bytes, Series, series}
 use Rattle.apply_path.specs.Fates.{config_of, fault_of, commands_unless, commands_at, series_at, history_from, history, begun, fate_by, apply_answering}
-use Rattle.apply_path.specs.Laws.{is_unread, readable, commands_from, events_of}
+use Rattle.apply_path.specs.Laws.{is_unread, unread_place, readable, first_unread, ending_by, commands_from, events_of}
 use Rattle.apply_path.specs.Serves.{behind}
 use Rattle.apply_path.proofs.Steps.{series_goes, series_ends}
 use Rattle.apply_path.proofs.Messages.{history_more, series_none}
@@ -54,6 +54,11 @@ written_then : (n : Numbers) (config : Config) (ds : List Command) (done : List 
 written_then n config ds done m written None past others e = ap (λ (w : List ℕ). written ++ w) e
 written_then n config ds done m written (Some code) past others e = refl
 
+-- a message without commands leaves the history as it is
+nothing_done : (s : Setting) (past : List Event) (place : ℕ) (m : List ℕ) → fault_of s m ≡ Some fault.NoMemory → series_at s past place m ≡ record { written = []; ending = None; past = past }
+nothing_done s past place m e =
+    ap (λ (x : Option MessageFault). series s.numbering (config_of s) past (commands_unless x (commands_of 0 (pos place) (orders_of s m)))) e ∙ series_none s.numbering (config_of s) past
+
 message_step : (s : Setting) (past : List Event) (place : ℕ) (done : List (List ℕ)) (m : List ℕ) (ms : List (List ℕ)) (others : Course) (f : Option MessageFault) → fault_of s m ≡ f
     → others.written ≡ (series s.numbering (config_of s) (series_at s past place m).past (commands_from s (place + 1) ms)).written
     → (course_with done m (fate_by f (series_at s past place m)).written (fate_by f (series_at s past place m)).ending others).written
@@ -67,23 +72,26 @@ message_step s past place done m ms others (Some (Wire p found)) e more = sym (a
 message_step s past place done m ms others (Some (Utf8 p)) e more = sym (ap (λ (x : Series). x.written) (series_none s.numbering (config_of s) past))
 message_step s past place done m ms others (Some fault.NoMemory) e more =
     let ds = commands_from s (place + 1) ms in
-    let first : series_at s past place m ≡ record { written = []; ending = None; past = past }
-    = ap (λ (x : Option MessageFault). series s.numbering (config_of s) past (commands_unless x (commands_of 0 (pos place) (orders_of s m)))) e ∙ series_none s.numbering (config_of s) past in
+    let first = nothing_done s past place m e in
     more ∙ ap (λ (x : Series). (series s.numbering (config_of s) x.past ds).written) first
     ∙ sym (ap (λ (x : Series). x.written) (series_join s.numbering (config_of s) past (commands_at s place m) ds ∙ ap (then s.numbering (config_of s) ds) first))
 
-abbrev pub others_in : Setting → List Event → ℕ → List (List ℕ) → List ℕ
-others_in s past place ms = (series s.numbering (config_of s) past (commands_from s place (readable s ms))).written
+-- the commands of messages, the first of which is at this place, as far as they can be read
+abbrev pub series_in : Setting → List Event → ℕ → List (List ℕ) → Series
+series_in s past place ms = series s.numbering (config_of s) past (commands_from s place (readable s ms))
 
-written_from : (s : Setting) (done ms : List (List ℕ)) → (course_from (apply_answering s) done ms).written ≡ (series s.numbering (config_of s) (history s done) (commands_from s (length done + 1) (readable s ms))).written
+-- behind a message more
+series_there : (s : Setting) (done : List (List ℕ)) (m : List ℕ) (ms : List (List ℕ))
+    → series_in s (history s (done ++ m ∷ [])) (length (done ++ m ∷ []) + 1) ms ≡ series_in s (series_at s (history s done) (length done + 1) m).past (length done + 1 + 1) ms
+series_there s done m ms =
+    ap (λ (k : ℕ). series_in s (history s (done ++ m ∷ [])) (k + 1) ms) (length_push done m) ∙ ap (λ (p : List Event). series_in s p (length done + 1 + 1) ms) (history_more s (begun s) 1 done m)
+
+written_from : (s : Setting) (done ms : List (List ℕ)) → (course_from (apply_answering s) done ms).written ≡ (series_in s (history s done) (length done + 1) ms).written
 unfolding course_from readable commands_from apply_answering
 written_from s done [] = sym (ap (λ (x : Series). x.written) (series_none s.numbering (config_of s) (history s done)))
 written_from s done (m ∷ ms) =
-    let place = length done + 1 in
-    let further = written_from s (done ++ m ∷ []) ms in
-    let there : others_in s (history s (done ++ m ∷ [])) (length (done ++ m ∷ []) + 1) ms ≡ others_in s (series_at s (history s done) place m).past (place + 1) ms
-    = ap (λ (k : ℕ). others_in s (history s (done ++ m ∷ [])) (k + 1) ms) (length_push done m) ∙ ap (λ (p : List Event). others_in s p (place + 1) ms) (history_more s (begun s) 1 done m) in
-    message_step s (history s done) place done m (readable s ms) (course_from (apply_answering s) (done ++ m ∷ []) ms) (fault_of s m) refl (further ∙ there)
+    message_step s (history s done) (length done + 1) done m (readable s ms) (course_from (apply_answering s) (done ++ m ∷ []) ms) (fault_of s m) refl
+    (written_from s (done ++ m ∷ []) ms ∙ ap (λ (x : Series). x.written) (series_there s done m ms))
 
 up_to_none : (es : List Event) → first_end es ≡ None → up_to_end es ≡ es
 unfolding up_to_end first_end
@@ -100,3 +108,76 @@ answers_in_a_row s messages = written_from s [] messages
 
 pub whole_answers : (s : Setting) (messages : List (List ℕ)) → first_end (events_of s messages) ≡ None → (course_from (apply_answering s) [] messages).written ≡ flat_map (answer_bytes s.numbering) (events_of s messages)
 whole_answers s messages e = answers_in_a_row s messages ∙ ap (flat_map (answer_bytes s.numbering)) (up_to_none (events_of s messages) e)
+
+-- ---- how the stream ends
+
+ending_then : (n : Numbers) (config : Config) (ds : List Command) (done : List (List ℕ)) (m written : List ℕ) (ending : Option ℕ) (past : List Event) (unread : Option ℕ) (others : Course)
+    → others.ending ≡ ending_by (series n config past ds).ending unread
+    → (course_with done m written (option_map (λ code. Reply code) ending) others).ending ≡ ending_by (then_by n config ds written ending past).ending unread
+ending_then n config ds done m written None past unread others e = e
+ending_then n config ds done m written (Some code) past unread others e = refl
+
+ending_step : (s : Setting) (past : List Event) (place : ℕ) (done : List (List ℕ)) (m : List ℕ) (ms : List (List ℕ)) (unread : Option ℕ) (others : Course) (f : Option MessageFault) → fault_of s m ≡ f
+    → others.ending ≡ ending_by (series s.numbering (config_of s) (series_at s past place m).past (commands_from s (place + 1) ms)).ending unread
+    → (course_with done m (fate_by f (series_at s past place m)).written (fate_by f (series_at s past place m)).ending others).ending
+    ≡ ending_by (series s.numbering (config_of s) past (commands_from s place (cond (is_unread f) [] (m ∷ ms)))).ending (option_or (unread_place f) unread)
+unfolding commands_from
+ending_step s past place done m ms unread others None e more =
+    let first = series_at s past place m in
+    ending_then s.numbering (config_of s) (commands_from s (place + 1) ms) done m first.written first.ending first.past unread others more
+    ∙ sym (ap (λ (x : Series). ending_by x.ending unread) (series_join s.numbering (config_of s) past (commands_at s place m) (commands_from s (place + 1) ms)))
+ending_step s past place done m ms unread others (Some (Wire p found)) e more = sym (ap (λ (x : Series). ending_by x.ending (Some p)) (series_none s.numbering (config_of s) past))
+ending_step s past place done m ms unread others (Some (Utf8 p)) e more = sym (ap (λ (x : Series). ending_by x.ending (Some p)) (series_none s.numbering (config_of s) past))
+ending_step s past place done m ms unread others (Some fault.NoMemory) e more =
+    let ds = commands_from s (place + 1) ms in
+    let first = nothing_done s past place m e in
+    more ∙ ap (λ (x : Series). ending_by (series s.numbering (config_of s) x.past ds).ending unread) first
+    ∙ sym (ap (λ (x : Series). ending_by x.ending unread) (series_join s.numbering (config_of s) past (commands_at s place m) ds ∙ ap (then s.numbering (config_of s) ds) first))
+
+ending_from : (s : Setting) (done ms : List (List ℕ)) → (course_from (apply_answering s) done ms).ending ≡ ending_by (series_in s (history s done) (length done + 1) ms).ending (first_unread s ms)
+unfolding course_from readable commands_from first_unread apply_answering
+ending_from s done [] = sym (ap (λ (x : Series). ending_by x.ending None) (series_none s.numbering (config_of s) (history s done)))
+ending_from s done (m ∷ ms) =
+    ending_step s (history s done) (length done + 1) done m (readable s ms) (first_unread s ms) (course_from (apply_answering s) (done ++ m ∷ []) ms) (fault_of s m) refl
+    (ending_from s (done ++ m ∷ []) ms ∙ ap (λ (x : Series). ending_by x.ending (first_unread s ms)) (series_there s done m ms))
+
+pub ending_is : (s : Setting) (messages : List (List ℕ)) → (course_from (apply_answering s) [] messages).ending ≡ ending_by (first_end (events_of s messages)) (first_unread s messages)
+unfolding series history_from
+ending_is s messages = ending_from s [] messages
+
+-- ---- which messages are done
+
+done_then : (n : Numbers) (config : Config) (ds : List Command) (done all : List (List ℕ)) (m written : List ℕ) (ending : Option ℕ) (past : List Event) (others : Course)
+    → (then_by n config ds written ending past).ending ≡ None → ((series n config past ds).ending ≡ None → others.done ≡ all)
+    → (course_with done m written (option_map (λ code. Reply code) ending) others).done ≡ all
+done_then n config ds done all m written None past others e more = more e
+done_then n config ds done all m written (Some code) past others e more = absurd cc
+
+done_step : (s : Setting) (past : List Event) (place : ℕ) (done : List (List ℕ)) (m : List ℕ) (ms : List (List ℕ)) (others : Course) (f : Option MessageFault) → fault_of s m ≡ f
+    → ((series s.numbering (config_of s) (series_at s past place m).past (commands_from s (place + 1) ms)).ending ≡ None → others.done ≡ (done ++ m ∷ []) ++ ms)
+    → (series s.numbering (config_of s) past (commands_from s place (cond (is_unread f) [] (m ∷ ms)))).ending ≡ None
+    → (course_with done m (fate_by f (series_at s past place m)).written (fate_by f (series_at s past place m)).ending others).done ≡ done ++ cond (is_unread f) [] (m ∷ ms)
+unfolding commands_from
+done_step s past place done m ms others None e more ends =
+    let first = series_at s past place m in
+    let ds = commands_from s (place + 1) ms in
+    let joined = ap (λ (x : Series). x.ending) (series_join s.numbering (config_of s) past (commands_at s place m) ds) in
+    done_then s.numbering (config_of s) ds done ((done ++ m ∷ []) ++ ms) m first.written first.ending first.past others (sym joined ∙ ends) more ∙ append_assoc done (m ∷ []) ms
+done_step s past place done m ms others (Some (Wire p found)) e more ends = sym (append-nil done)
+done_step s past place done m ms others (Some (Utf8 p)) e more ends = sym (append-nil done)
+done_step s past place done m ms others (Some fault.NoMemory) e more ends =
+    let ds = commands_from s (place + 1) ms in
+    let first = nothing_done s past place m e in
+    let joined = ap (λ (x : Series). x.ending) (series_join s.numbering (config_of s) past (commands_at s place m) ds ∙ ap (then s.numbering (config_of s) ds) first) in
+    more (ap (λ (x : Series). (series s.numbering (config_of s) x.past ds).ending) first ∙ sym joined ∙ ends) ∙ append_assoc done (m ∷ []) ms
+
+done_from : (s : Setting) (done ms : List (List ℕ)) → (series_in s (history s done) (length done + 1) ms).ending ≡ None → (course_from (apply_answering s) done ms).done ≡ done ++ readable s ms
+unfolding course_from readable commands_from apply_answering
+done_from s done [] e = sym (append-nil done)
+done_from s done (m ∷ ms) e =
+    done_step s (history s done) (length done + 1) done m (readable s ms) (course_from (apply_answering s) (done ++ m ∷ []) ms) (fault_of s m) refl
+    (λ none. done_from s (done ++ m ∷ []) ms (ap (λ (x : Series). x.ending) (series_there s done m ms) ∙ none)) e
+
+pub done_are : (s : Setting) (messages : List (List ℕ)) → first_end (events_of s messages) ≡ None → (course_from (apply_answering s) [] messages).done ≡ readable s messages
+unfolding series history_from
+done_are s messages e = done_from s [] messages e

@@ -1,6 +1,5 @@
 -- One command, and commands in a row.
-use Rattle.std.proofs.Common.{inl, inr, ◌≡◌, ℕ, ◌≤◌, ◌^◌, Bool, true, false, cond, List, [], ◌∷◌, ◌++◌, Option, Some, None, refl, sym, ap, subst, ◌∙◌, append_assoc}
-use Rattle.std.specs.Prelude.{is_some, not, ◌&&◌, ◌==◌}
+use Rattle.std.proofs.Common.{inl, inr, ◌≡◌, ℕ, ◌≤◌, ◌^◌, Bool, true, false, cond, List, [], ◌∷◌, ◌++◌, Some, None, refl, sym, ap, subst, ◌∙◌, append_assoc}
 use Rattle.std.proofs.lemmas.List.{append-nil}
 use Rattle.std.proofs.lemmas.List.Concat.{flat_map-cons}
 use Rattle.schema_numbers.specs.Numbers.{Numbers}
@@ -14,16 +13,12 @@ use Rattle.table_model.specs.Legal.{IsAnswer}
 use Rattle.table_model.specs.Reply.{reply_to}
 use Rattle.rib_core.specs.Core.{Core}
 use Rattle.rib_core.specs.Stands.{StandsFor, Acts}
-use Rattle.rib_core.specs.Built.{as_served, served_params, is_built}
+use Rattle.rib_core.specs.Built.{as_served}
 use Rattle.message_run.specs.declared.answerer.Answered.{Answered}
 use Rattle.message_run.specs.declared.answerer.Answered.TheVariants.{GoesOn, Ends, Unread, NoMemory}
-use Rattle.table_model.specs.declared.params.Params.{Params}
-use Rattle.table_model.specs.Reply.{is_stoppable, is_halted, is_gone, params_beside, params_reply, reply_params, reply_announce, operate_reply, reply_operate, answer}
-use Rattle.table_model.specs.Sessions.{params_of, supported, differing}
-use Rattle.table_model.specs.Rib.{verdict}
-use Rattle.aft_entries.specs.declared.operation.Reason.{Reason}
+use Rattle.table_model.specs.Reply.{is_gone, answer}
 use Rattle.apply_path.specs.History.{event, answered, with_events, up_to_end, first_end, is_operate, id_of, moment_of, code_by, code_of, owed_bytes, answer_bytes, Series, series_of, series}
-use Rattle.apply_path.specs.Serves.{Stood, Told, Replied, Went, Did, Does, behind, is_collected}
+use Rattle.apply_path.specs.Serves.{Stood, IsTold, Replied, Went, Did, Does, behind}
 
 -- ---- one event
 
@@ -123,7 +118,7 @@ unfolding series answered
 series_ends n config past c others code on = ends_in n past (event config past c) (answered config (event config past c ∷ past) others) code on
 
 pub does_one : (n : Numbers) (old new : Core) (c : Command) (given : Reply) (answer : Answered) (before after : List ℕ) → Replied old c given new
-    → Told n (is_operate c) (id_of c) (moment_of c) given answer before after → Does n old new (c ∷ []) answer before after
+    → IsTold n (is_operate c) (id_of c) (moment_of c) given answer before after → Does n old new (c ∷ []) answer before after
 does_one n old new c given GoesOn before after r told = λ config past stood.
     let more = stood_more config old new past c given stood r.config told.0 (r.acts told.0) in
     record {
@@ -146,59 +141,6 @@ does_one n old new c given (Ends code) before after r told = λ config past stoo
     }
 does_one n old new c given (Unread place) before after r told = absurd told
 does_one n old new c given NoMemory before after r told = λ config past stood. record { part = []; begins = λ others. ((series n config past (c ∷ others)).written, refl); appended = told ∙ sym (append-nil before) }
-
--- ---- no command here asks for results
-
-collected_in : (a b : Bool) (x : Reply) → is_collected x ≡ false → is_collected (cond a reply.Stopped (cond b reply.Gone x)) ≡ false
-collected_in true b x e = refl
-collected_in false true x e = refl
-collected_in false false x e = e
-
-params_beside-not : (o : Option Params) → is_collected (params_beside o) ≡ false
-params_beside-not None = refl
-params_beside-not (Some other) = refl
-
-pick-not : (b : Bool) (x y : Reply) → is_collected x ≡ false → is_collected y ≡ false → is_collected (cond b x y) ≡ false
-pick-not true x y e f = e
-pick-not false x y e f = f
-
-params-not : (past : List Event) (session : ℕ) (o : Option Params) → is_collected (params_reply past session o) ≡ false
-params-not past session None = refl
-params-not past session (Some params) = pick-not (is_some (params_of past session)) reply.ParamsNotAllowed (params_beside (differing past session params)) refl (params_beside-not (differing past session params))
-
-operate-not : (o : Option Reason) → is_collected (operate_reply o) ≡ false
-operate-not None = refl
-operate-not (Some reason) = refl
-
-answer-not : (config : Config) (past : List Event) (c : Command) → is_built c ≡ true → is_collected (answer config past (as_served c)) ≡ false
-unfolding reply_params reply_announce reply_operate
-answer-not config past Begin built = refl
-answer-not config past (SetParams s a) built = params-not past s (supported (served_params a))
-answer-not config past (Announce s id) built = pick-not (not (is_some (params_of past s))) reply.NoParams _ refl (pick-not (id == 0) reply.ZeroId _ refl refl)
-answer-not config past (Operate s o t) built = pick-not (not (is_some (params_of past s))) reply.NoParams _ refl (operate-not (verdict config past s o))
-answer-not config past (Leave s) built = refl
-answer-not config past (Collect s) built = absurd cc
-answer-not config past (Flush b w t) built = absurd cc
-answer-not config past (Select w k) built = absurd cc
-answer-not config past (Take w t) built = absurd cc
-answer-not config past (Report j v t) built = absurd cc
-answer-not config past Halt built = absurd cc
-
-lacks-not : (given : Reply) → is_no_memory given ≡ true → is_collected given ≡ false
-lacks-not reply.NoMemory e = refl
-lacks-not (reply.Collected given outstanding) e = absurd cc
-lacks-not (reply.Began s) e = refl
-lacks-not _ e = refl
-
-not_in : (b : Bool) (config : Config) (old new : Core) (past : List Event) (c : Command) (given : Reply) → is_no_memory given ≡ b → is_built c ≡ true → Stood config old past → Replied old c given new → is_collected given ≡ false
-unfolding reply_to
-not_in true config old new past c given has built stood r = lacks-not given has
-not_in false config old new past c given has built stood r =
-    let is = (stood_more config old new past c given stood r.config has (r.acts has)).1 in
-    ap is_collected is ∙ collected_in (is_stoppable (as_served c) && is_halted past) (is_gone past (as_served c)) (answer config past (as_served c)) (answer-not config past c built)
-
-pub not_collected : (config : Config) (old new : Core) (past : List Event) (c : Command) (given : Reply) → is_built c ≡ true → Stood config old past → Replied old c given new → is_collected given ≡ false
-not_collected config old new past c given built stood r = not_in (is_no_memory given) config old new past c given refl built stood r
 
 -- ---- commands in a row
 

@@ -47,6 +47,8 @@ history_from s past place (m ∷ ms) = history_from s (series_at s past place m)
 abbrev pub history : Setting → List (List ℕ) → List Event
 history s messages = history_from s (begun s) 1 messages
 
+-- What a message comes to, by its first fault and what its commands come to. No first fault is NoMemory, so nothing comes to the
+-- last arm.
 abbrev pub fate_by : Option MessageFault → Series → Fate
 fate_by None done = record { written = done.written; ending = option_map (λ code. Reply code) done.ending }
 fate_by (Some (Wire place found)) done = record { written = []; ending = Some (Field place) }

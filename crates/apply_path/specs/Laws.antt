@@ -1,13 +1,16 @@
 -- All that an input asks for, in one row.
-use Rattle.std.specs.Prelude.{ℕ, ◌+◌, Bool, true, false, List, [], ◌∷◌, ◌++◌, Option, Some, if◌then◌else◌}
+use Rattle.std.specs.Prelude.{ℕ, ◌+◌, Bool, true, false, List, [], ◌∷◌, ◌++◌, Option, Some, None, if◌then◌else◌}
+use Rattle.std.specs.Option.{option_map, option_or}
 use Rattle.proto_schema.specs.declared.legal.MessageFault.{MessageFault}
 use Rattle.proto_schema.specs.declared.legal.MessageFault.TheVariants.{Wire, Utf8}
+use Rattle.message_run.specs.Answering.{Ending, Reply, Field}
 use Rattle.session_engine.specs.declared.orders.Setting.{Setting}
 use Rattle.table_model.specs.declared.command.Command.{Command}
 use Rattle.table_model.specs.Event.{Event}
 use Rattle.apply_path.specs.History.{answered}
 use Rattle.apply_path.specs.Fates.{config_of, fault_of, commands_at, begun}
 
+-- A field of the message can't be read. No first fault is NoMemory.
 abbrev pub is_unread : Option MessageFault → Bool
 is_unread (Some (Wire place found)) = true
 is_unread (Some (Utf8 place)) = true
@@ -17,6 +20,22 @@ is_unread _ = false
 unfoldable pub readable : Setting → List (List ℕ) → List (List ℕ)
 readable s [] = []
 readable s (m ∷ ms) = if is_unread (fault_of s m) then [] else m ∷ readable s ms
+
+-- where the field stands that can't be read
+abbrev pub unread_place : Option MessageFault → Option ℕ
+unread_place (Some (Wire place found)) = Some place
+unread_place (Some (Utf8 place)) = Some place
+unread_place _ = None
+
+-- the place of the field, in the first message that can't be read
+unfoldable pub first_unread : Setting → List (List ℕ) → Option ℕ
+first_unread s [] = None
+first_unread s (m ∷ ms) = option_or (unread_place (fault_of s m)) (first_unread s ms)
+
+-- a stream ends by the first reply that ends it, and else where a message can't be read
+abbrev pub ending_by : Option ℕ → Option ℕ → Option Ending
+ending_by (Some code) place = Some (Reply code)
+ending_by None place = option_map (λ place. Field place) place
 
 -- the commands of messages, the first of which is at this place
 unfoldable pub commands_from : Setting → ℕ → List (List ℕ) → List Command

@@ -1,5 +1,5 @@
 -- What a session of `apply` keeps, and what it does with commands in a row.
-use Rattle.std.specs.Prelude.{◌≡◌, ◌≤◌, ◌^◌, ℕ, ℤ, Bool, true, false, List, [], ◌∷◌, ◌++◌, length, Some, None}
+use Rattle.std.specs.Prelude.{◌≡◌, ◌≤◌, ◌^◌, ℕ, ℤ, Bool, false, List, [], ◌∷◌, ◌++◌, length, Some, None}
 use Rattle.schema_numbers.specs.Numbers.{Numbers}
 use Rattle.proto_schema.specs.declared.legal.MessageFault.{MessageFault}
 use Rattle.proto_schema.specs.declared.legal.MessageFault.TheVariants.{Wire, Utf8}
@@ -9,7 +9,6 @@ use Rattle.table_model.specs.declared.command.Command.{Command}
 use Rattle.table_model.specs.declared.command.Command.TheVariants.{Begin, Leave}
 use Rattle.table_model.specs.declared.command.Config.{Config}
 use Rattle.table_model.specs.declared.reply.Reply.{Reply}
-use Rattle.table_model.specs.declared.reply.Reply.TheVariants as reply
 use Rattle.table_model.specs.Event.{Event, events, is_no_memory}
 use Rattle.rib_core.specs.Core.{Core}
 use Rattle.rib_core.specs.Built.{as_served}
@@ -77,15 +76,11 @@ Does n old new cs answer before after = (config : Config) (past : List Event) �
 -- ---- what a reply comes to
 
 -- The answer that is owed was appended, and the reply ends the stream or not. Without memory nothing was appended.
-abbrev pub Told : Numbers → Bool → ℕ → ℤ → Reply → Answered → List ℕ → List ℕ → Type 0
-Told n operate id now given GoesOn before after = (is_no_memory given ≡ false) × (code_by operate given ≡ None) × (after ≡ before ++ owed_bytes n id now given)
-Told n operate id now given (Ends code) before after = (is_no_memory given ≡ false) × (code_by operate given ≡ Some code) × (after ≡ before ++ owed_bytes n id now given)
-Told n operate id now given (Unread place) before after = ⊥
-Told n operate id now given NoMemory before after = after ≡ before
-
-abbrev pub is_collected : Reply → Bool
-is_collected (reply.Collected given outstanding) = true
-is_collected _ = false
+abbrev pub IsTold : Numbers → Bool → ℕ → ℤ → Reply → Answered → List ℕ → List ℕ → Type 0
+IsTold n operate id now given GoesOn before after = (is_no_memory given ≡ false) × (code_by operate given ≡ None) × (after ≡ before ++ owed_bytes n id now given)
+IsTold n operate id now given (Ends code) before after = (is_no_memory given ≡ false) × (code_by operate given ≡ Some code) × (after ≡ before ++ owed_bytes n id now given)
+IsTold n operate id now given (Unread place) before after = ⊥
+IsTold n operate id now given NoMemory before after = after ≡ before
 
 -- The table answered the command, unless it had no room for another event.
 pub record Replied (old : Core) (command : Command) (answer : Reply) (new : Core) : Type 0 where

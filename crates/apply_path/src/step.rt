@@ -1,4 +1,4 @@
-ghost use Rattle.std.specs.Prelude.{◌≡◌, ◌<◌, ◌^◌, ◌++◌, ◌∷◌, [], List, length, true, false, IfOk, OnOk, OnErr, IsTrue};
+ghost use Rattle.std.specs.Prelude.{◌≡◌, ◌<◌, ◌^◌, ◌++◌, ◌∷◌, [], List, length, true, IfOk, OnOk, OnErr, IsTrue};
 ghost use Rattle.grpc_framing.specs.Framing.{item};
 ghost use Rattle.rib_core.specs.Built.{is_built};
 ghost use Rattle.rib_core.specs.Ends.{end_reply};
@@ -6,7 +6,7 @@ ghost use Rattle.table_model.specs.Reply.{operate_reply};
 ghost use Rattle.table_model.specs.Event.{Event, is_no_memory};
 ghost use Rattle.table_model.specs.declared.command.Config.{Config};
 ghost use Rattle.apply_path.specs.History.{is_operate, id_of, moment_of, owed_bytes, code_by as code_said};
-ghost use Rattle.apply_path.specs.Serves.{Stood, Told, Replied, Does, is_collected};
+ghost use Rattle.apply_path.specs.Serves.{Stood, IsTold, Replied, Does};
 
 use aft_entries::Reason;
 use message_run::Answered;
@@ -48,7 +48,6 @@ fn append_owed(
     message: &mut Vec<u8>,
     out: &mut Vec<u8>,
 ) -> Result<(), AllocError>
-    requires { is_collected reply.now ≡ false }
     ensures ok { OnOk result (out.new.items ≡ out.old.items ++ owed_bytes n.now id now reply.now) }
     ensures err { OnErr result (out.new.items ≡ out.old.items) }
 {
@@ -90,8 +89,7 @@ pub fn tell(
     message: &mut Vec<u8>,
     out: &mut Vec<u8>,
 ) -> Answered
-    requires { is_collected reply.now ≡ false }
-    ensures { Told n.now operate id now reply.now result out.old.items out.new.items }
+    ensures { IsTold n.now operate id now reply.now result out.old.items out.new.items }
 {
     if is_lack(reply) {
         return Answered::NoMemory;
@@ -135,7 +133,7 @@ fn tell_result(
     message: &mut Vec<u8>,
     out: &mut Vec<u8>,
 ) -> Answered
-    ensures { Told n.now true id now (operate_reply failed) result out.old.items out.new.items }
+    ensures { IsTold n.now true id now (operate_reply failed) result out.old.items out.new.items }
 {
     match append_operation_item(n, id, now, failed, message, out) {
         Ok(()) => Answered::GoesOn,
@@ -154,7 +152,7 @@ pub fn tell_operation(
     message: &mut Vec<u8>,
     out: &mut Vec<u8>,
 ) -> Answered
-    ensures { Told n.now true id now (end_reply end) result out.old.items out.new.items }
+    ensures { IsTold n.now true id now (end_reply end) result out.old.items out.new.items }
 {
     match end {
         OperateEnd::Done => tell_result(n, id, now, None, message, out),
@@ -174,7 +172,7 @@ fn tell_away(
     message: &mut Vec<u8>,
     out: &mut Vec<u8>,
 ) -> Answered
-    ensures { Told n.now true id now Reply.Gone result out.old.items out.new.items }
+    ensures { IsTold n.now true id now Reply.Gone result out.old.items out.new.items }
 {
     tell(alloc, n, true, id, now, &Reply::Gone, message, out)
 }
@@ -188,7 +186,7 @@ fn tell_without_params(
     message: &mut Vec<u8>,
     out: &mut Vec<u8>,
 ) -> Answered
-    ensures { Told n.now true id now Reply.NoParams result out.old.items out.new.items }
+    ensures { IsTold n.now true id now Reply.NoParams result out.old.items out.new.items }
 {
     tell(alloc, n, true, id, now, &Reply::NoParams, message, out)
 }

@@ -16,6 +16,7 @@ pub struct AftResult {
     pub id: u64,
     pub status: u64,
     pub timestamp: i64,
+    /// 0 where there is none.
     pub reason: u64,
 }
 

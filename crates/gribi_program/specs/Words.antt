@@ -35,3 +35,7 @@ taken names = if is_none (fault_of names) then Some names else None
 -- the names of the network instances, parted by commas, or None where the words are no command
 unfoldable pub instances_in : List (List ℕ) → Option (List (List ℕ))
 instances_in words = option_and_then (λ text. taken (slice_split (λ c. c == 44) text)) (said words)
+
+-- what is written for words that are no command
+abbrev pub usage_line : List ℕ
+usage_line = codes "usage: gribi apply\n"

@@ -1,9 +1,9 @@
-ghost use Rattle.std.specs.Prelude.{◌≡◌, ◌⊎◌, ◌≤◌, List, ℕ, Some, None, codes, map, string_bytes};
+ghost use Rattle.std.specs.Prelude.{◌≡◌, ◌⊎◌, ◌≤◌, List, ℕ, Some, None, map, string_bytes};
 ghost use Rattle.rig_io.specs.Fault.{HasCause, StaysUnless, Rose};
-ghost use Rattle.message_run.specs.Runs.{IsStatus};
+ghost use Rattle.message_run.specs.Runs.{IsStatus, told};
 ghost use Rattle.message_run.specs.Written.{Wrote, WrotePart};
 ghost use Rattle.apply_path.specs.Applied.{Applies, AppliesOver};
-ghost use Rattle.gribi_program.specs.Words.{instances_in};
+ghost use Rattle.gribi_program.specs.Words.{instances_in, usage_line};
 ghost use Rattle.gribi_program.specs.Settings.{setting_with};
 
 use crate::words::read_words;
@@ -16,8 +16,8 @@ use std::alloc::Global;
 
 // Writes the usage line.
 fn write_usage<K: Sink>(output: &mut K)
-    ensures whole { Wrote (K.placed output.old) (codes "usage: gribi apply\n") (K.placed output.new) ⊎ Rose (K.faults output.old) (K.faults output.new) }
-    ensures part { WrotePart (K.placed output.old) (codes "usage: gribi apply\n") (K.placed output.new) }
+    ensures whole { Wrote (K.placed output.old) usage_line (K.placed output.new) ⊎ Rose (K.faults output.old) (K.faults output.new) }
+    ensures part { WrotePart (K.placed output.old) usage_line (K.placed output.new) }
     ensures later { K.faults output.old ≤ K.faults output.new }
 {
     let _ = put_all(output, b"usage: gribi apply\n");
@@ -30,22 +30,8 @@ fn apply<S: Source, K: Sink>(
     input: &mut S,
     output: &mut K,
 ) -> u8
-    ensures applies { Applies (setting_with instances) result (record {
-      taken_before = S.taken input.old;
-      taken_after = S.taken input.new;
-      left_before = S.left input.old;
-      left_after = S.left input.new;
-      before = K.placed output.old;
-      after = K.placed output.new;
-    }) }
-    ensures over { (all : List ℕ) → S.left input.old ≡ Some all → AppliesOver (setting_with instances) result all (record {
-      taken_before = S.taken input.old;
-      taken_after = S.taken input.new;
-      left_before = S.left input.old;
-      left_after = S.left input.new;
-      before = K.placed output.old;
-      after = K.placed output.new;
-    }) }
+    ensures applies { Applies (setting_with instances) result (told (S.taken input.old) (S.taken input.new) (S.left input.old) (S.left input.new) (K.placed output.old) (K.placed output.new)) }
+    ensures over { (all : List ℕ) → S.left input.old ≡ Some all → AppliesOver (setting_with instances) result all (told (S.taken input.old) (S.taken input.new) (S.left input.old) (S.left input.new) (K.placed output.old) (K.placed output.new)) }
     ensures status { IsStatus result }
     ensures read { HasCause (S.faults input.old) (S.faults input.new) (result ≡ 4) }
     ensures read_stays { StaysUnless (S.faults input.old) (S.faults input.new) (result ≡ 4) }
@@ -77,27 +63,12 @@ pub fn gribi_main<S: Source, K: Sink>(
     ensures refused { instances_in (map string_bytes words.now) ≡ None → (result ≡ 2) ⊎ (result ≡ 6) }
     ensures unread { instances_in (map string_bytes words.now) ≡ None → input.new ≡ input.old }
     ensures silent { instances_in (map string_bytes words.now) ≡ None → result ≡ 6 → output.new ≡ output.old }
-    ensures usage_line { result ≡ 2 → Wrote (K.placed output.old) (codes "usage: gribi apply\n") (K.placed output.new) ⊎ Rose (K.faults output.old) (K.faults output.new) }
-    ensures usage_part { result ≡ 2 → WrotePart (K.placed output.old) (codes "usage: gribi apply\n") (K.placed output.new) }
+    ensures usage_line { result ≡ 2 → Wrote (K.placed output.old) usage_line (K.placed output.new) ⊎ Rose (K.faults output.old) (K.faults output.new) }
+    ensures usage_part { result ≡ 2 → WrotePart (K.placed output.old) usage_line (K.placed output.new) }
     // Else the answers of the one-thread server are written: a function of the bytes that were taken,
-    ensures applies { (names : List (List ℕ)) → instances_in (map string_bytes words.now) ≡ Some names → Applies (setting_with names) result (record {
-      taken_before = S.taken input.old;
-      taken_after = S.taken input.new;
-      left_before = S.left input.old;
-      left_after = S.left input.new;
-      before = K.placed output.old;
-      after = K.placed output.new;
-    }) }
+    ensures applies { (names : List (List ℕ)) → instances_in (map string_bytes words.now) ≡ Some names → Applies (setting_with names) result (told (S.taken input.old) (S.taken input.new) (S.left input.old) (S.left input.new) (K.placed output.old) (K.placed output.new)) }
     // and of the input, where the source tells it.
-    ensures over { (names : List (List ℕ)) → instances_in (map string_bytes words.now) ≡ Some names → (all : List ℕ) → S.left input.old ≡ Some all →
-        AppliesOver (setting_with names) result all (record {
-          taken_before = S.taken input.old;
-          taken_after = S.taken input.new;
-          left_before = S.left input.old;
-          left_after = S.left input.new;
-          before = K.placed output.old;
-          after = K.placed output.new;
-        }) }
+    ensures over { (names : List (List ℕ)) → instances_in (map string_bytes words.now) ≡ Some names → (all : List ℕ) → S.left input.old ≡ Some all → AppliesOver (setting_with names) result all (told (S.taken input.old) (S.taken input.new) (S.left input.old) (S.left input.new) (K.placed output.old) (K.placed output.new)) }
     ensures statuses { (result ≡ 2) ⊎ IsStatus result }
     ensures read { HasCause (S.faults input.old) (S.faults input.new) (result ≡ 4) }
     ensures read_stays { StaysUnless (S.faults input.old) (S.faults input.new) (result ≡ 4) }

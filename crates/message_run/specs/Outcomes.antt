@@ -27,7 +27,8 @@ pub data Close : Type 0 where
   Unread : (place : ℕ) → Close
 
 -- At a rest where no message stands, at this offset of an input of so many bytes. A rest that is compressed, too long or cut
--- can't be read at its flag byte, and an input past the longest one at the first byte past it.
+-- can't be read at its flag byte, and an input past the longest one at the first byte past it. A cut never ends at a message, so
+-- nothing comes to the last arm.
 abbrev pub close_at_rest : ℕ → ℕ → List ℕ → Front → Close
 close_at_rest count offset rest NeedMore =
     if nat_lt LONGEST count then Unread LONGEST else if length rest == 0 then Whole else Unread offset

@@ -21,6 +21,16 @@ pub record Told : Type 0 where
   pub before : Option (List ℕ)
   pub after : Option (List ℕ)
 
+abbrev pub told : (taken_before taken_after left_before left_after before after : Option (List ℕ)) → Told
+told taken_before taken_after left_before left_after before after = record {
+  taken_before = taken_before;
+  taken_after = taken_after;
+  left_before = left_before;
+  left_after = left_after;
+  before = before;
+  after = after;
+}
+
 -- A run with this status, of a server that answers so. What it has done tells `has_done`, and with what it has left `has_left`.
 pub record Runs (f : Answering) (has_done has_left : List (List ℕ) → Type 0) (status : ℕ) (told : Told) : Type 0 where
   -- the bytes that the run took

@@ -20,10 +20,10 @@ pub trait Answerer: Drop {
     /// What each message comes to after those before it.
     ghost fate: { Self → Answering };
 
-    // The server has done these messages.
+    /// The server has done these messages.
     ghost stands: { Self → List (List ℕ) → Type 0 };
 
-    // The server has done these messages, and the stream's session has left.
+    /// The server has done these messages, and the stream's session has left.
     ghost left: { Self → List (List ℕ) → Type 0 };
 
     /// Does a message, and appends its answers to `out` as they stand in the output.

@@ -2,7 +2,7 @@ ghost use Rattle.std.specs.Prelude.{◌≡◌, ◌⊎◌, ◌+◌, ◌<◌, ◌�
 ghost use Rattle.rig_io.specs.Fault.{HasCause, StaysUnless};
 ghost use Rattle.message_run.specs.Outcomes.{Close, last_item as item_said};
 ghost use Rattle.message_run.specs.Reading.{Stopped, close_of, stop_at as stop_said};
-ghost use Rattle.message_run.specs.Runs.{Told, Runs, RunsOver, IsStatus};
+ghost use Rattle.message_run.specs.Runs.{Told, Runs, RunsOver, IsStatus, told};
 ghost use Rattle.message_run.specs.Written.{Wrote, WrotePart};
 ghost use Rattle.message_run.specs.declared.stop.Stop.TheVariants.{ReadFault, WriteFault};
 
@@ -50,14 +50,7 @@ fn serve_all<A: Answerer, S: Source, K: Sink>(
     requires first { A.stands server.old [] }
     requires room { length buffer.old ≡ 65536 }
     ensures fate { A.fate server.new ≡ A.fate server.old }
-    ensures stopped { Stopped (A.fate server.old) (A.stands server.new) result (record {
-      taken_before = S.taken input.old;
-      taken_after = S.taken input.new;
-      left_before = S.left input.old;
-      left_after = S.left input.new;
-      before = K.placed output.old;
-      after = K.placed output.new;
-    }) }
+    ensures stopped { Stopped (A.fate server.old) (A.stands server.new) result (told (S.taken input.old) (S.taken input.new) (S.left input.old) (S.left input.new) (K.placed output.old) (K.placed output.new)) }
     ensures read { HasCause (S.faults input.old) (S.faults input.new) (result ≡ ReadFault) }
     ensures read_stays { StaysUnless (S.faults input.old) (S.faults input.new) (result ≡ ReadFault) }
     ensures write { HasCause (K.faults output.old) (K.faults output.new) (result ≡ WriteFault) }
@@ -124,14 +117,7 @@ fn run_in<A: Answerer, S: Source, K: Sink>(
     requires first { A.stands server.old [] }
     requires room { length buffer.old ≡ 65536 }
     ensures fate { A.fate server.new ≡ A.fate server.old }
-    ensures runs { Runs (A.fate server.old) (A.stands server.new) (A.left server.new) result (record {
-      taken_before = S.taken input.old;
-      taken_after = S.taken input.new;
-      left_before = S.left input.old;
-      left_after = S.left input.new;
-      before = K.placed output.old;
-      after = K.placed output.new;
-    }) }
+    ensures runs { Runs (A.fate server.old) (A.stands server.new) (A.left server.new) result (told (S.taken input.old) (S.taken input.new) (S.left input.old) (S.left input.new) (K.placed output.old) (K.placed output.new)) }
     ensures status { IsStatus result }
     ensures read { HasCause (S.faults input.old) (S.faults input.new) (result ≡ 4) }
     ensures read_stays { StaysUnless (S.faults input.old) (S.faults input.new) (result ≡ 4) }
@@ -167,23 +153,9 @@ pub fn run<A: Answerer, S: Source, K: Sink>(
     requires first { A.stands server.old [] }
     ensures fate { A.fate server.new ≡ A.fate server.old }
     // What is written is a function of the bytes that were taken, whether or not the source tells what is left.
-    ensures runs { Runs (A.fate server.old) (A.stands server.new) (A.left server.new) result (record {
-      taken_before = S.taken input.old;
-      taken_after = S.taken input.new;
-      left_before = S.left input.old;
-      left_after = S.left input.new;
-      before = K.placed output.old;
-      after = K.placed output.new;
-    }) }
+    ensures runs { Runs (A.fate server.old) (A.stands server.new) (A.left server.new) result (told (S.taken input.old) (S.taken input.new) (S.left input.old) (S.left input.new) (K.placed output.old) (K.placed output.new)) }
     // Where the source tells its input, it is a function of the input.
-    ensures over { (all : List ℕ) → S.left input.old ≡ Some all → RunsOver (A.fate server.old) (A.stands server.new) (A.left server.new) result all (record {
-      taken_before = S.taken input.old;
-      taken_after = S.taken input.new;
-      left_before = S.left input.old;
-      left_after = S.left input.new;
-      before = K.placed output.old;
-      after = K.placed output.new;
-    }) }
+    ensures over { (all : List ℕ) → S.left input.old ≡ Some all → RunsOver (A.fate server.old) (A.stands server.new) (A.left server.new) result all (told (S.taken input.old) (S.taken input.new) (S.left input.old) (S.left input.new) (K.placed output.old) (K.placed output.new)) }
     ensures status { IsStatus result }
     // No failure is hidden: a status but 4 leaves the input's faults, and one but 5 the output's.
     ensures read { HasCause (S.faults input.old) (S.faults input.new) (result ≡ 4) }

@@ -1,3 +1,4 @@
 pub mod Faults
 pub mod Depth
 mod Nothing
+pub mod Never

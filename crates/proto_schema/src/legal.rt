@@ -1,4 +1,4 @@
-ghost use Rattle.std.specs.Prelude.{◌≡◌, ◌+◌, ◌≤◌, ◌<◌, ◌^◌, ℕ, List, length};
+ghost use Rattle.std.specs.Prelude.{◌≡◌, ◌+◌, ◌≤◌, ◌<◌, ◌^◌, ℕ, List, Some, length};
 ghost use Rattle.schema_numbers.specs.Numbers.{Numbers};
 ghost use Rattle.proto_schema.specs.declared.schema.MessageKind.{MessageKind};
 ghost use Rattle.proto_schema.specs.Schema.{kind_of};
@@ -13,9 +13,11 @@ use schema_numbers::Numbering;
 /// outermost message.
 #[derive(Clone, Copy, Debug, PartialEq, Eq)]
 pub enum MessageFault {
+    /// A field isn't well formed on the wire.
     Wire(usize, WireFault),
     /// The bytes of a text are not UTF-8.
     Utf8(usize),
+    /// There was no memory for the value. No message has this as its first fault: only a decoder tells it.
     NoMemory,
 }
 
@@ -110,10 +112,11 @@ fn fault_within(
     }
 }
 
-/// The first fault of a message, also of one deep inside it: of its wire form, or of a text that is not UTF-8.
-#[tactic(auto, unfolding(crate::specs::Legal::first_fault))]
+/// The first fault of a message, also of one deep inside it: of its wire form, or of a text that is not UTF-8. It takes no memory.
+#[tactic(auto, using(crate::proofs::Never::first_never), unfolding(crate::specs::Legal::first_fault))]
 pub fn first_fault(n: &Numbering, message: MessageKind, bytes: &[u8]) -> Option<MessageFault>
-    ensures { result ≡ fault_of n.now message bytes.now }
+    ensures first { result ≡ fault_of n.now message bytes.now }
+    ensures never { result ≡ Some MessageFault.NoMemory → ⊥ }
 {
     fault_within(6, n, message, 0, bytes)
 }

@@ -6,7 +6,8 @@ use Rattle.rig_io.specs.declared.source.Took.TheVariants.{Got, End, Failed}
 use Rattle.rig_io.specs.declared.sink.Placed.{Placed}
 use Rattle.rig_io.specs.declared.sink.Placed.TheVariants as placed
 
--- the bytes given and those to be given, and how many calls there were so far
+-- The bytes given and those to be given, the numbers of the calls that are to fail, how many calls there were so far, and how many
+-- of them failed.
 pub record Input : Type 0 where
   pub given : List ℕ
   pub rest : List ℕ
@@ -14,7 +15,8 @@ pub record Input : Type 0 where
   pub calls : ℕ
   pub faults : ℕ
 
--- all bytes placed, how many calls there were so far, and how many of them found no memory
+-- All bytes placed, the numbers of the calls that are to fail, how many calls there were so far, how many of them failed, and how
+-- many were refused memory.
 pub record Output : Type 0 where
   pub bytes : List ℕ
   pub failing : List ℕ

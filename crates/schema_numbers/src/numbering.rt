@@ -150,12 +150,13 @@ impl Numbering {
     pub fn all_are_valid(&self)
         ensures { IsValid self.now }
     {
+        // A field has to be read: only then is it known what the type says of all numberings.
         let _ = &self.fields;
     }
 }
 
-#[tactic(auto, using(crate::proofs::Ranges::default_is_valid))]
 /// The default numbers, or want of memory.
+#[tactic(auto, using(crate::proofs::Ranges::default_is_valid))]
 pub fn default_numbering(alloc: Global) -> Result<Numbering, AllocError>
     ensures { IfOk result (λ n. n ≡ default_numbers) }
 {

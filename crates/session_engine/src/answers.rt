@@ -169,9 +169,11 @@ pub fn append_operation_result(
     out: &mut Vec<u8>,
 ) -> Result<(), AllocError>
     ensures ok { OnOk result (out.new.items ≡ out.old.items ++ response_bytes n.now (said.one_result (said.operation_result n.now id now failed))) }
+    ensures short { OnOk result (length out.new.items ≤ length out.old.items + said.LONGEST) }
     ensures err { OnErr result (out.new.items ≡ out.old.items) }
 {
-    append_result_response(n, &operation_result(n, id, now, failed), out)
+    append_result(n, &operation_result(n, id, now, failed), out)?;
+    Ok(())
 }
 
 /// Appends the ModifyResponse that is owed for a reply, and tells whether one is. An operation's result bears its id and its

@@ -1,4 +1,4 @@
-use Rattle.apply_path.proofs.Rows.{answers_in_a_row, whole_answers}
+use Rattle.apply_path.proofs.Rows.{answers_in_a_row, whole_answers, ending_is, done_are}
 use Rattle.apply_path.proofs.laws.answers_are_the_servers.Goals as goal
 
 pub returns-clause-answers : goal.returns-clause-answers
@@ -6,3 +6,9 @@ returns-clause-answers c = answers_in_a_row
 
 pub returns-clause-whole : goal.returns-clause-whole
 returns-clause-whole c = whole_answers
+
+pub returns-clause-ends : goal.returns-clause-ends
+returns-clause-ends c = ending_is
+
+pub returns-clause-done : goal.returns-clause-done
+returns-clause-done c = done_are

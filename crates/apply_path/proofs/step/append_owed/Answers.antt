@@ -1,5 +1,8 @@
-use Rattle.apply_path.proofs.Sizes.{spelled_short}
+use Rattle.std.proofs.Common.{◌≡◌, ◌<◌, ◌^◌, length, ap, arith}
 use Rattle.apply_path.proofs.step.append_owed.Goals as goal
 
 pub append_item-requires : goal.append_item-requires
-append_item-requires c = rw c.deref.ensures.value (spelled_short c.args.n.now c.args.id _ c.args.reply.now _ c.clear.new.self.items c.append_answer.new.out.items c.clear.ensures.items c.if-branch.true c.in_ok-append_answer.ensures.ok c.requires)
+append_item-requires c =
+    let none : length c.clear.new.self.items ≡ 0 = ap length c.clear.ensures.items in
+    let short : length c.append_answer.new.out.items < 2 ^ 32 = omega (arith, none, c.in_ok-append_answer.ensures.short) in
+    rw c.deref.ensures.value short

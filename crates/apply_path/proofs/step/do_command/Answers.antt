@@ -1,11 +1,6 @@
 use Rattle.std.proofs.Common.{to_z-of_z}
-use Rattle.apply_path.proofs.Steps.{not_collected, does_one}
+use Rattle.apply_path.proofs.Steps.{does_one}
 use Rattle.apply_path.proofs.step.do_command.Goals as goal
-
-pub tell-answered-requires : goal.tell-answered-requires
-tell-answered-requires c =
-    let s = c.requires.stood in
-    not_collected s.0 c.args.core.now c.reply_to-reply.new.core s.1 c.args.command c.reply_to-reply.result c.requires.built s.2 c.reply_to-reply.ensures.room
 
 pub returns : goal.returns
 returns c =
