@@ -6,6 +6,5 @@
 mod backups;
 mod check;
 mod operate;
-mod scan;
 
 pub use operate::{judge, perform};

@@ -3,9 +3,8 @@ ghost use Rattle.table_model.specs.Table.{refusal, performed, displaced, needs_r
 
 use crate::backups::is_too_deep;
 use crate::check::{is_bad_name, is_bad_payload};
-use crate::scan::{has, is_used, resolves};
 use aft_entries::{Ask, Entry, Key, Reason};
-use aft_store::Store;
+use aft_store::{Store, has, is_used, resolves};
 
 /// Why the operation is refused, if it is: the first of the reasons from OpUnsupported to TableFull that holds,
 /// with so many network instances and so many entries at most. It looks at the operation, at the keys that it

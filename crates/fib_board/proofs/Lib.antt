@@ -1,0 +1,9 @@
+pub mod Finding
+pub mod Rows
+pub mod Ascending
+pub mod Ending
+pub mod Standing
+pub mod Following
+pub mod Joining
+pub mod Quiet
+pub mod Older
