@@ -3,14 +3,39 @@ use proto_schema::{
     number_at, text_at,
 };
 use proto_wire::WireFault;
-use schema_numbers::{FieldName, ValueName, default_numbering};
+use schema_numbers::{FieldName, Numbering, ValueName, default_numbering};
 use std::test::Fail;
+
+const FIELDS: &[(FieldName, u32)] = &[
+    (FieldName::ModifyRequestElectionId, 3),
+    (FieldName::AftOperationElectionId, 11),
+    (FieldName::AftEntryFibStatus, 8),
+    (FieldName::LabelLeavesNextHopGroupNetworkInstance, 2),
+    (FieldName::PushedLabelLabelUint64, 1),
+];
+
+const VALUES: &[(ValueName, u64)] = &[
+    (ValueName::OpDelete, 3),
+    (ValueName::AckTypeRibAck, 0),
+    (ValueName::ResultStatusFibFailed, 5),
+    (ValueName::ModifyReasonElectionIdInAllPrimary, 4),
+];
+
+fn are_default(n: &Numbering) -> bool {
+    let mut is_right = true;
+    for (item, number) in FIELDS {
+        is_right &= n.field(*item) == *number;
+    }
+    for (item, number) in VALUES {
+        is_right &= n.value(*item) == *number;
+    }
+    is_right
+}
 
 #[test]
 fn numbers_of_the_schema(rt: HostRuntime) -> Result<(), Fail> {
     let n = default_numbering(rt.alloc())?;
-    assert!(rt; n.field(FieldName::ModifyRequestElectionId) == 3);
-    assert!(rt; n.value(ValueName::OpDelete) == 3);
+    assert!(rt; are_default(&n));
     Ok(())
 }
 

@@ -97,32 +97,3 @@ impl Batch {
         results
     }
 }
-
-#[cfg(test)]
-mod tests {
-    use super::{Batch, FibResult};
-    use std::alloc::AllocError;
-    use std::collections::LinkedList;
-
-    #[test]
-    fn a_batch_takes_256_results(rt: HostRuntime) -> Result<(), AllocError> {
-        let mut due = LinkedList::new(rt.alloc());
-        for id in 0..300 {
-            due.push_back(FibResult {
-                id,
-                failed: None,
-                now: 0,
-            })?;
-        }
-        let first = Batch::cut(&mut due);
-        let second = Batch::cut(&mut due);
-        assert_eq!(rt; first.len(), 256);
-        assert_eq!(rt; second.as_list().len(), 44);
-        assert_eq!(rt;
-            second.into_list().pop_front().map(|first| first.id),
-            Some(256)
-        );
-        assert_eq!(rt; Batch::empty(rt.alloc()).len(), 0);
-        Ok(())
-    }
-}

@@ -4,6 +4,8 @@
 #[cfg(test)]
 mod announcements;
 #[cfg(test)]
+mod batches;
+#[cfg(test)]
 mod board_jobs;
 #[cfg(test)]
 mod histories;

@@ -1,5 +1,6 @@
 use crate::fields::{Pair, fields_of, shown};
 use grpc_heads::{HeadRead, Method, read_request_head, request_head, response_head};
+use hpack_tables::{is_malformed_response, is_malformed_trailers};
 use std::alloc::{AllocError, Global};
 use std::test::Fail;
 
@@ -167,5 +168,16 @@ fn are_written(alloc: Global) -> Result<bool, AllocError> {
 #[test]
 fn heads_are_written(rt: HostRuntime) -> Result<(), Fail> {
     assert!(rt; are_written(rt.alloc())?);
+    Ok(())
+}
+
+#[test]
+fn heads_of_responses_and_trailers_are_judged(rt: HostRuntime) -> Result<(), Fail> {
+    let head = fields_of(rt.alloc(), &[(b":status", b"200"), TYPE])?;
+    let trailers = fields_of(rt.alloc(), &[(b"grpc-status", b"0")])?;
+    assert!(rt; !is_malformed_response(head.as_slice()));
+    assert!(rt; is_malformed_response(trailers.as_slice()));
+    assert!(rt; is_malformed_trailers(head.as_slice()));
+    assert!(rt; !is_malformed_trailers(trailers.as_slice()));
     Ok(())
 }
