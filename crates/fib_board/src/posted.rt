@@ -193,7 +193,7 @@ impl Posted {
         work_refers(&self.work, key) || displaced_refers(&self.displaced, key)
     }
 
-    // Whether it matters which of the two jobs is done first.
+    // Whether the later of the two jobs waits for the earlier.
     #[tactic(auto, unfolding(table_model::specs::Jobs::conflict))]
     fn conflicts(&self, other: &Posted) -> bool
         ensures { result ≡ history.conflict self.now.task other.now.task }
