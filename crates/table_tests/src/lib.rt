@@ -8,6 +8,8 @@ mod batches;
 #[cfg(test)]
 mod board_jobs;
 #[cfg(test)]
+mod flushes;
+#[cfg(test)]
 mod histories;
 #[cfg(test)]
 mod operations;

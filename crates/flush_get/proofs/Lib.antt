@@ -1,0 +1,4 @@
+pub mod Passing
+pub mod Remaining
+pub mod Selecting
+pub mod Settling
