@@ -1,7 +1,6 @@
 -- A listener where nothing was begun.
 use Rattle.std.proofs.Common.{◌≡◌, ℕ, ◌-◌, ◌^◌, Bool, ◌&&◌, true, false, List, [], Option, Some, None, refl, sym, ap, ◌∙◌, map, min}
 use Rattle.std.specs.Prelude.{not, filter, sum_by}
-use Rattle.std.proofs.lemmas.List.Elements.{All-nil}
 use Rattle.h2_frames.specs.declared.frame.FrameBody.{FrameBody}
 use Rattle.h2_exchange.specs.declared.role.Role.{Role}
 use Rattle.h2_exchange.specs.declared.role.Role.TheVariants.{Client, Server}
@@ -16,7 +15,7 @@ use Rattle.h2_conn.proofs.Sound.{sound}
 use Rattle.grpc_stream.specs.Sends as send
 use Rattle.grpc_stream.specs.Talk.{Talk, changed, is_ended, is_taking, left_on, waiting_in}
 
-none_begun : (role : Role) (s u : FrameBody) (last : Option FrameBody) → begun role (map Sent (frames s u last)) ≡ []
+pub none_begun : (role : Role) (s u : FrameBody) (last : Option FrameBody) → begun role (map Sent (frames s u last)) ≡ []
 none_begun Client s u None = refl
 none_begun Client s u (Some b) = refl
 none_begun Server s u None = refl
@@ -66,7 +65,7 @@ pumps g t h =
       fs = [];
       lists = [];
       goes_on = refl;
-      carried = All-nil (send.IsCarried t);
+      carried = tt;
       refused = λ dead. refl;
       full = λ alive id live. let none : false ≡ true = sym (not_live g (wrote [] [] t.course) later id) ∙ live in absurd cc;
       ended = λ alive id live. let none : false ≡ true = sym (not_live g (wrote [] [] t.course) later id) ∙ live in absurd cc;

@@ -1,5 +1,5 @@
 -- A side that sends no head and no data spells nothing.
-use Rattle.std.proofs.Common.{◌≡◌, ℕ, Bool, ◌||◌, false, true, List, [], ◌∷◌, ◌++◌, Option, Some, None, refl, sym, ap, ◌∙◌}
+use Rattle.std.proofs.Common.{map, ◌≡◌, ℕ, Bool, ◌||◌, false, true, List, [], ◌∷◌, ◌++◌, Option, Some, None, refl, sym, ap, ◌∙◌}
 use Rattle.std.specs.Prelude.{option_to_list}
 use Rattle.std.specs.List.{list_any}
 use Rattle.std.proofs.lemmas.List.Concat.{flat_map-append}
@@ -7,19 +7,21 @@ use Rattle.std.proofs.lemmas.List.Folds.{list_any-append}
 use Rattle.grpc_framing.specs.declared.front.Front.TheVariants.{NeedMore}
 use Rattle.grpc_framing.specs.Framing.{messages_of, messages_upto}
 use Rattle.h2_frames.specs.declared.frame.Frame.{Frame}
-use Rattle.h2_frames.specs.declared.frame.Frame.TheVariants.{Settings, WindowUpdate, GoAway}
+use Rattle.h2_frames.specs.declared.frame.Frame.TheVariants.{Content, Settings, WindowUpdate, GoAway}
 use Rattle.h2_frames.specs.declared.frame.FrameBody.{FrameBody}
 use Rattle.hpack_tables.specs.declared.field.Field.{Field}
 use Rattle.h2_exchange.specs.declared.role.Role.{Role}
 use Rattle.h2_exchange.specs.declared.role.Role.TheVariants.{Client, Server}
 use Rattle.h2_exchange.specs.Blocks.{Block, block_with, blocks_behind, left_open, completed, completed_by}
 use Rattle.h2_exchange.specs.Exchange.{Step, Sent, sent_of, sent}
-use Rattle.h2_exchange.specs.Frames.{is_rst_stream}
+use Rattle.h2_exchange.specs.Frames.{is_data, is_rst_stream}
+use Rattle.h2_exchange.specs.Streams as streams
 use Rattle.h2_exchange.specs.Spelled.{Part, Unclosed, has_begun, parts, part_of, block_part}
 use Rattle.h2_conn.specs.declared.greeter.Greeter.{Greeter}
 use Rattle.h2_conn.specs.Greets as greets
 use Rattle.h2_conn.proofs.Greeted.{frames, blockless}
 use Rattle.h2_conn.proofs.Unheard.{all_sent}
+use Rattle.grpc_stream.proofs.Idle.{none_begun}
 use Rattle.grpc_stream.specs.Talk.{Talk, IsSoundTalk, SpellsOn, owed, told_in}
 
 none_first : {A : Type 0} (o : Option A) (more : List A) → option_to_list o ++ more ≡ [] → o ≡ None
@@ -111,8 +113,23 @@ never_reset fs past behind f none same is =
     ap (list_any is_rst_stream) cut ∙ list_any-append is_rst_stream (sent past) (f ∷ sent behind) ∙ or_right (list_any is_rst_stream (sent past)) (is_rst_stream f) (list_any is_rst_stream (sent behind)) is in
     let clash : true ≡ false = sym some ∙ none in absurd cc
 
-pub sound : (g : Greeter) (t : Talk) → greets.StandsFor g t.course → t.told ≡ [] → t.taken ≡ [] → IsSoundTalk t (greets.output_of g)
-sound g t h told taken = record {
+no_data : (s u : FrameBody) (last : Option FrameBody) → list_any is_data (frames s u last) ≡ false
+no_data s u None = refl
+no_data s u (Some b) = refl
+
+-- where no DATA is sent, none stands anywhere
+never_data : {A : Type 0} (fs : List Frame) (past behind : List Step) (b : FrameBody) → list_any is_data fs ≡ false → fs ≡ sent (past ++ Sent (Content b) ∷ behind) → A
+never_data fs past behind b none same =
+    let cut : fs ≡ sent past ++ Content b ∷ sent behind = same ∙ flat_map-append sent_of past (Sent (Content b) ∷ behind) in
+    let some : list_any is_data fs ≡ true =
+    ap (list_any is_data) cut ∙ list_any-append is_data (sent past) (Content b ∷ sent behind) ∙ or_right (list_any is_data (sent past)) true (list_any is_data (sent behind)) refl in
+    let clash : true ≡ false = sym some ∙ none in absurd cc
+
+pub sound : (g : Greeter) (t : Talk) → greets.StandsFor g t.course → t.told ≡ [] → t.taken ≡ [] → t.begun ≡ [] → IsSoundTalk t (greets.output_of g)
+sound g t h told taken begun = record {
+  unpadded = λ past behind b split. never_data (frames h.parts.sent.settings h.parts.sent.update h.parts.sent.last) past behind b (no_data h.parts.sent.settings h.parts.sent.update h.parts.sent.last) (sym sent_is ∙ ap sent split);
+  begun_first = λ id none. none_owed t id taken;
+  calls = λ is. rw begun (sym (ap (λ (x : List Step). streams.begun Client x) (h.parts.frames_are ∙ ap (map Sent) h.parts.sent.frames_are) ∙ none_begun Client h.parts.sent.settings h.parts.sent.update h.parts.sent.last));
   course = h.sound;
   told = rw told (told_in t, refl);
   only = λ past behind f split is. never_reset (frames h.parts.sent.settings h.parts.sent.update h.parts.sent.last) past behind f (none_reset h.parts.sent.settings h.parts.sent.update h.parts.sent.last) (sym sent_is ∙ ap sent split) is;

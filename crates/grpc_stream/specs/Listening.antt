@@ -8,4 +8,5 @@ pub record StandsFor (l : Listener) (t : Talk) : Type 0 where
   pub conn : greets.StandsFor l.conn t.course
   pub told_is : t.told ≡ []
   pub taken_is : t.taken ≡ []
+  pub begun_is : t.begun ≡ []
   pub sound : IsSoundTalk t (greets.output_of l.conn)

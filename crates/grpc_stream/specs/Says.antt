@@ -37,6 +37,7 @@ Shows (Asked (call.Finished id)) (says.Finished stream) = stream ≡ id
 Shows (Asked (call.Dropped id)) (says.Dropped stream) = stream ≡ id
 Shows (Answered (call.Answered id message)) (says.Answered stream bytes) = (stream ≡ id) × (bytes ≡ message)
 Shows (Answered (call.Closed id status)) (says.Closed stream s) = (stream ≡ id) × (s ≡ status)
+Shows (Answered (call.Broken id)) (says.Dropped stream) = stream ≡ id
 Shows told other = ⊥
 
 -- ---- how calls go on

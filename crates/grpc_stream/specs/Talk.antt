@@ -12,18 +12,20 @@ use Rattle.grpc_heads.specs.Heads.{first_value, is_grpc, head_of}
 use Rattle.grpc_heads.specs.Trailers.{ending_of}
 use Rattle.grpc_heads.specs.Written.{request_fields, response_fields}
 use Rattle.h2_frames.specs.declared.frame.Frame.{Frame}
+use Rattle.h2_frames.specs.declared.frame.Frame.TheVariants.{Content}
+use Rattle.h2_frames.specs.declared.frame.FrameBody.{FrameBody}
 use Rattle.hpack_tables.specs.declared.field.Field.{Field}
 use Rattle.h2_exchange.specs.declared.role.Role.{Role}
 use Rattle.h2_exchange.specs.declared.role.Role.TheVariants.{Client, Server}
 use Rattle.h2_exchange.specs.Calls.{Call, Answer, calls, answers}
 use Rattle.h2_exchange.specs.Exchange.{Step, Sent, sent}
-use Rattle.h2_exchange.specs.Frames.{stream_of, is_rst_stream}
+use Rattle.h2_exchange.specs.Frames.{stream_of, is_rst_stream, has_padding}
 use Rattle.h2_exchange.specs.Outgoing.{IsErrorReset}
 use Rattle.h2_exchange.specs.Requests as request
 use Rattle.h2_exchange.specs.Requests.{Asks, end_if}
 use Rattle.h2_exchange.specs.Sending.{IsFront}
 use Rattle.h2_exchange.specs.Spelled.{Item, Message, Finish, Spells, IsFrontOf, IsMessageFirst, has_begun, parts}
-use Rattle.h2_exchange.specs.Streams.{is_open, live}
+use Rattle.h2_exchange.specs.Streams.{begun, is_begun, is_open, live}
 use Rattle.h2_exchange.specs.Windows.{spent_on}
 use Rattle.schema_numbers.specs.Numbers.{Numbers}
 use Rattle.h2_conn.specs.Course.{Course, IsSound, events_in, is_alive}
@@ -223,3 +225,8 @@ pub record IsSoundTalk (t : Talk) (output : List ℕ) : Type 0 where
   pub only : (past behind : List Step) (f : Frame) → t.course.frames ≡ past ++ Sent f ∷ behind → is_rst_stream f ≡ true →
       IsErrorReset t.course.role t.course.limits t.course.heads past f ⊎ Contains t.resets (stream_of f)
   pub spelled : (id : ℕ) → All (λ what. suits t.course.role what ≡ true) (owed t id) → SpellsOn t.course.role t id
+  -- no DATA is padded, so the bytes that DATA counts are those of messages
+  pub unpadded : (past behind : List Step) (b : FrameBody) → t.course.frames ≡ past ++ Sent (Content b) ∷ behind → has_padding (Content b) ≡ false
+  -- what was taken is for streams that were begun, and a client's calls are those
+  pub begun_first : (id : ℕ) → is_begun t.course.role t.course.frames id ≡ false → owed t id ≡ []
+  pub calls : t.course.role ≡ Client → map (λ (call : ℕ × Method). call.0) t.begun ≡ begun Client t.course.frames

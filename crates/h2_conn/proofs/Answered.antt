@@ -97,10 +97,9 @@ module _ (role : Role) (limits : H2Limits) where
     record {
       alive = h.refusal_is;
       more = [];
-      part = [];
       outcomes = [];
       receives = ends c.frames;
-      cut = inl (refl, work);
+      work = work;
       ends = refl;
     },
   )

@@ -1,5 +1,5 @@
 -- Whether a greeter is between frames.
-use Rattle.std.proofs.Common.{◌≡◌, ℕ, List, [], Option, None, refl, sym, ◌∙◌, Bool}
+use Rattle.std.proofs.Common.{◌≡◌, ℕ, List, [], Option, None, refl, sym, ap, ◌∙◌, Bool, false, map}
 use Rattle.std.specs.Prelude.{IsTrue, ◌↔◌}
 use Rattle.h2_frames.specs.Reader.{Reader}
 use Rattle.h2_frames.specs.Stream.{EndsBetween, AreWhole}
@@ -10,6 +10,11 @@ use Rattle.h2_conn.specs.declared.greeter.Ended.{Ended}
 use Rattle.h2_conn.specs.Answers.{IsBetween}
 use Rattle.h2_conn.specs.Course.{Course}
 use Rattle.h2_conn.specs.Greeting.{IsAt}
+use Rattle.h2_exchange.specs.Exchange.{Step, Sent}
+use Rattle.h2_exchange.specs.Streams.{is_live, is_open}
+use Rattle.h2_conn.specs.declared.greeter.Greeter.{Greeter}
+use Rattle.h2_conn.specs.Greets as greets
+use Rattle.h2_conn.proofs.Greeted.{frames, none_live, none_is_open}
 use Rattle.h2_conn.proofs.Opened.{alive_of}
 use Rattle.h2_conn.proofs.Unheard.{none_received}
 
@@ -24,3 +29,13 @@ between role limits reader output ended c h alive answer ends =
   where
     back : IsBetween c → AreWhole (due_from_peer role) c.fed []
     back b = rw (← h.role_is, ← none_received h.fs, ← h.frames_are) b.whole
+
+module _ (g : Greeter) (c : Course) (h : greets.StandsFor g c) where
+  frames_are : c.frames ≡ map Sent (frames h.parts.sent.settings h.parts.sent.update h.parts.sent.last)
+  frames_are = h.parts.frames_are ∙ ap (map Sent) h.parts.sent.frames_are
+
+  pub not_live : (id : ℕ) → false ≡ is_live c.role c.frames id
+  not_live id = sym (ap (λ (x : List Step). is_live c.role x id) frames_are ∙ none_live c.role h.parts.sent.settings h.parts.sent.update h.parts.sent.last id)
+
+  pub not_open : (id : ℕ) → false ≡ is_open c.role c.frames id
+  not_open id = sym (ap (λ (x : List Step). is_open c.role x id) frames_are ∙ none_is_open c.role h.parts.sent.settings h.parts.sent.update h.parts.sent.last id)

@@ -1,5 +1,5 @@
 -- What holds of a greeter.
-use Rattle.std.proofs.Common.{ℕ, ◌<◌, List, [], Option, refl, sym, ◌∙◌, arith}
+use Rattle.std.proofs.Common.{ℕ, ◌<◌, List, [], Option, refl, sym, subst, ◌∙◌, ◌≡◌, arith, Some, None}
 use Rattle.std.proofs.lemmas.List.Elements.{All-nil}
 use Rattle.h2_frames.specs.Reader.{Reader}
 use Rattle.hpack_tables.specs.Writing.{fresh}
@@ -7,11 +7,18 @@ use Rattle.h2_exchange.specs.declared.limits.H2Limits.{H2Limits}
 use Rattle.h2_exchange.specs.declared.role.Role.{Role}
 use Rattle.h2_exchange.specs.Compression.{IsWritable}
 use Rattle.h2_conn.specs.declared.greeter.Ended.{Ended}
+use Rattle.h2_conn.specs.declared.greeter.Ended.TheVariants as was
 use Rattle.h2_conn.specs.Course.{Course, IsSound, style_of, events_in}
-use Rattle.h2_conn.specs.Greeting.{IsAt}
+use Rattle.h2_conn.specs.Greeting.{IsAt, AreSent, refusal_of}
+use Rattle.h2_conn.proofs.Answered.{credited}
 use Rattle.h2_conn.proofs.Unheard.{none_received, all_sent, no_data, no_received}
 use Rattle.h2_conn.proofs.Greeted.{no_blocks, none_written, no_acks, no_data_in}
 use Rattle.h2_conn.proofs.Placed.{placed}
+
+alive_of : (ended : Option Ended) → refusal_of ended ≡ None → ended ≡ None
+alive_of None e = refl
+alive_of (Some (was.Broken why place)) e = absurd cc
+alive_of (Some was.NoMemory) e = absurd cc
 
 pub sound : (role : Role) (limits : H2Limits) (reader : Reader) (output : List ℕ) (ended : Option Ended) (c : Course) → IsAt role limits reader output ended c → IsSound c output
 sound role limits reader output ended c h = record {
@@ -30,5 +37,8 @@ sound role limits reader output ended c h = record {
   placed = rw (h.frames_are, h.sent.frames_are) (placed h.sent.settings h.sent.update h.sent.last);
   acknowledged = rw (h.frames_are, all_sent h.fs, none_received h.fs, h.sent.frames_are, no_acks h.sent.settings h.sent.update h.sent.last h.sent.first.settings_are.flags_are) ([], refl);
   windows = λ before behind b e. absurd (no_data h.fs before behind b (rw (h.sent.frames_are) (no_data_in h.sent.settings h.sent.update h.sent.last)) (sym h.frames_are ∙ e));
-  resets = λ alive past behind f why e. absurd (no_received h.fs past behind f (sym h.frames_are ∙ e));
+  credited = λ alive free.
+      let none = alive_of ended (sym h.refusal_is ∙ alive) in
+      rw (h.role_is, h.limits_are, h.frames_are) (credited role limits h.fs (subst (λ (x : Option Ended). AreSent role limits x h.fs) none h.sent));
+  resets = λ past behind f why e. absurd (no_received h.fs past behind f (sym h.frames_are ∙ e));
 }

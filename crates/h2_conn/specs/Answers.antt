@@ -1,5 +1,5 @@
 -- What a connection says next, and the frames that it receives and sends by it.
-use Rattle.std.specs.Prelude.{◌≡◌, ℕ, ◌⊎◌, Bool, true, false, map, List, [], ◌∷◌, ◌++◌, Option, Some, None, if◌then◌else◌}
+use Rattle.std.specs.Prelude.{◌≡◌, ℕ, ◌⊎◌, Bool, true, false, map, List, length, [], ◌∷◌, ◌++◌, Option, Some, None, if◌then◌else◌}
 use Rattle.std.specs.List.{flat_map}
 use Rattle.h2_frames.specs.declared.code.ErrorCode.{ErrorCode}
 use Rattle.h2_frames.specs.declared.code.TheConstants.ErrorCode as code
@@ -23,12 +23,12 @@ use Rattle.h2_conn.specs.Course.{Course, Refusal, Stopped, NoMemory, events_in, 
 
 -- ---- frames that are received, and what answers them
 
-abbrev text_or_none : Option (List ℕ) → List ℕ
+abbrev pub text_or_none : Option (List ℕ) → List ℕ
 text_or_none None = []
 text_or_none (Some text) = text
 
 -- the credit of a frame's data, unless credit is held
-abbrev credit_for : Role → Bool → List Step → Frame → List ℕ
+abbrev pub credit_for : Role → Bool → List Step → Frame → List ℕ
 credit_for role is_holding now f = if is_holding then [] else credit_text role now (stream_of f) (counted f)
 
 -- A stream error, which no SETTINGS or PING is, is answered by the reset of its stream and then by credit, of which that
@@ -51,12 +51,6 @@ pub data Receives (role : Role) (limits : H2Limits) (is_holding : Bool) (heads :
       Receives role limits is_holding heads past (Received f ∷ (map Sent fs ++ more))
   stops : (past : List Step) (f : Frame) (stop : Stop) → stop_of role limits heads past ≡ None → stop_of role limits heads (past ++ Received f ∷ []) ≡ Some stop →
       Receives role limits is_holding heads past (Received f ∷ [])
-
--- memory ran out while a frame was answered
-abbrev pub IsCutShort : Role → H2Limits → Bool → List Outcome → List Step → List Step → Type 0
-IsCutShort role limits is_holding heads past part =
-    (f : Frame) × (fs others : List Frame) × (part ≡ Received f ∷ map Sent fs) × (stop_of role limits heads (past ++ Received f ∷ []) ≡ None)
-    × AreReply role limits is_holding heads past f (fs ++ others)
 
 -- ---- answers
 
@@ -111,15 +105,14 @@ pub record Stops (c : Course) (stop : Stop) (d : Course) : Type 0 where
 abbrev pub HasWork : Course → Type 0
 HasWork c = HasAnother (due_from_peer c.role) c.fed (received c.frames) ⊎ ((stop : Stop) × IsCause c stop)
 
--- memory ran out before the next step or within it
+-- memory ran out before the next step
 pub record RunsOut (c d : Course) : Type 0 where
   pub alive : c.refusal ≡ None
   pub more : List Step
-  pub part : List Step
   pub outcomes : List Outcome
   pub receives : Receives c.role c.limits c.is_holding (c.heads ++ outcomes) c.frames more
-  pub cut : ((part ≡ []) × HasWork (after more outcomes [] None c)) ⊎ IsCutShort c.role c.limits c.is_holding (c.heads ++ outcomes) (c.frames ++ more) part
-  pub ends : d ≡ after (more ++ part) outcomes [] (Some NoMemory) c
+  pub work : HasWork (after more outcomes [] None c)
+  pub ends : d ≡ after more outcomes [] (Some NoMemory) c
 
 -- the refusal that was given before
 abbrev pub Again : Course → Refusal → Course → Type 0
@@ -150,3 +143,8 @@ is_event other = false
 pub record IsBetween (c : Course) : Type 0 where
   pub whole : AreWhole (due_from_peer c.role) c.fed (received c.frames)
   pub closed : open_block (received c.frames) ≡ None
+
+-- how many bytes of data are given
+abbrev pub size_in : H2Event → ℕ
+size_in (says.Piece id bytes) = length bytes
+size_in other = 0

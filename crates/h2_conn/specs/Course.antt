@@ -18,7 +18,7 @@ use Rattle.h2_exchange.specs.Exchange.{Step, Sent, received, sent, sent_text}
 use Rattle.h2_exchange.specs.Order.{due_from_peer, due_from_self, end_of}
 use Rattle.h2_exchange.specs.Outcomes.{StandFirst, AreKnown}
 use Rattle.h2_exchange.specs.Outgoing.{HasPlace}
-use Rattle.h2_exchange.specs.Sending.{IsFront, AreAcknowledged, ResetsErrors, first_text}
+use Rattle.h2_exchange.specs.Sending.{IsFront, AreAcknowledged, IsCredited, ResetsErrors, first_text}
 use Rattle.h2_exchange.specs.Stops.{Stop, stop_of, events}
 use Rattle.h2_exchange.specs.Windows.{IsWithinWindows}
 
@@ -128,4 +128,6 @@ pub record IsSound (c : Course) (output : List ℕ) : Type 0 where
   pub placed : ArePlaced c.frames
   pub acknowledged : AreAcknowledged c.frames
   pub windows : IsWithinWindows c.frames
-  pub resets : (c.refusal ≡ Some NoMemory → ⊥) → ResetsErrors c.role c.limits c.heads c.frames
+  -- unless it is held no credit is owed
+  pub credited : c.refusal ≡ None → c.is_holding ≡ false → IsCredited c.role c.limits c.frames
+  pub resets : ResetsErrors c.role c.limits c.heads c.frames

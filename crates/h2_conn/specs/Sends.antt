@@ -1,5 +1,7 @@
 -- The frames of heads, data, trailers, resets and credits.
-use Rattle.std.specs.Prelude.{◌≡◌, ℕ, zero, suc, ◌+◌, ◌<◌, ◌^◌, ◌⊎◌, ◌==◌, ◌&&◌, Bool, true, false, map, replicate, All, List, [], ◌∷◌, ◌++◌, length, take, Result, Ok, Err, if◌then◌else◌}
+use Rattle.hpack_tables.specs.declared.field.Field.{Field}
+use Rattle.hpack_tables.specs.Room.{size_of}
+use Rattle.std.specs.Prelude.{sum_by, ◌*◌, ◌/◌, ◌≡◌, ℕ, zero, suc, ◌+◌, ◌<◌, ◌^◌, ◌⊎◌, ◌==◌, ◌&&◌, Bool, true, false, map, replicate, All, List, [], ◌∷◌, ◌++◌, length, take, Result, Ok, Err, if◌then◌else◌}
 use Rattle.h2_frames.specs.declared.code.ErrorCode.{ErrorCode}
 use Rattle.h2_frames.specs.declared.frame.Frame.{Frame}
 use Rattle.h2_frames.specs.declared.frame.Frame.TheVariants.{Content, Headers, RstStream, Continuation}
@@ -75,3 +77,10 @@ BeginsWhere c (Ok id) = (is_alive c ≡ true) × (highest (sent c.frames) < 2147
 BeginsWhere c (Err NotOpen) = is_alive c ≡ false
 BeginsWhere c (Err IdsSpent) = (is_alive c ≡ true) × (highest (sent c.frames) ≡ 2147483647)
 BeginsWhere c (Err NoMemory) = Unit {0}
+
+-- how many bytes the frames of a server's block take at most: a size update, each field as a literal, and nine bytes a frame
+abbrev pub text_room : List Field → ℕ
+text_room fields = 6 + sum_by size_of fields
+
+abbrev pub block_room : List Field → ℕ
+block_room fields = text_room fields + 9 * (1 + text_room fields / 16384)

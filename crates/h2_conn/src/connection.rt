@@ -1,5 +1,5 @@
 //! What the layers above use of a connection.
-ghost use Rattle.std.specs.Prelude.{◌≡◌, ◌≤◌, ◌<◌, ◌↔◌, ◌&&◌, ℕ, List, [], ◌∷◌, true, false, None, length, take, sum_by, IsTrue, IfOk, OnOk, OnErr, drop};
+ghost use Rattle.std.specs.Prelude.{Err, ◌+◌, ◌≡◌, ◌≤◌, ◌<◌, ◌↔◌, ◌&&◌, ℕ, List, [], ◌∷◌, true, false, None, length, take, sum_by, IsTrue, IfOk, OnOk, OnErr, drop};
 
 use crate::event::H2Event;
 use bytes::Bytes;
@@ -13,13 +13,14 @@ use std::alloc::AllocError;
 /// `NotOpen`. A sending call that answers `NoMemory` has sent nothing.
 pub trait Connection: Drop {
     ghost use Rattle.h2_frames.specs.declared.frame.Frame.{Frame};
-    ghost use Rattle.h2_exchange.specs.declared.role.Role.TheVariants.{Client};
+    ghost use Rattle.h2_exchange.specs.declared.role.Role.TheVariants.{Client, Server};
+    ghost use Rattle.h2_exchange.specs.declared.fault.SendFault.TheVariants.{NoMemory};
     ghost use Rattle.h2_exchange.specs.Streams.{is_live, is_open};
     ghost use Rattle.h2_exchange.specs.Windows.{placed_of};
     ghost use Rattle.hpack_tables.specs.Room.{size_of};
-    ghost use Rattle.h2_conn.specs.Answers.{Answers, IsBetween, is_event};
+    ghost use Rattle.h2_conn.specs.Answers.{Answers, IsBetween, is_event, size_in};
     ghost use Rattle.h2_conn.specs.Course.{Course, Carries, Keeps, IsSound, is_alive, fed_more, dropped_more, held, wrote};
-    ghost use Rattle.h2_conn.specs.Sends.{CarryBlock, CarryPiece, CarryReset, CarryCredit, BeginsWhere, SendsWhere};
+    ghost use Rattle.h2_conn.specs.Sends.{CarryBlock, CarryPiece, CarryReset, CarryCredit, BeginsWhere, SendsWhere, block_room};
 
     // The connection was used so.
     ghost stands: { Self → Course → Type 0 };
@@ -30,6 +31,24 @@ pub trait Connection: Drop {
     // No more events come before more is fed.
     ghost ahead: { Self → ℕ };
 
+    // So many bytes can be sent without memory.
+    ghost room: { Self → ℕ };
+
+    /// Makes room to send so many bytes without memory. Without memory nothing changes.
+    fn reserve(&mut self, more: usize) -> Result<(), AllocError>
+        ensures room { OnOk result (more ≤ room self.new) }
+        ensures kept { Keeps (stands self.old) (stands self.new) }
+        ensures output { output self.new ≡ output self.old }
+        ensures ahead { ahead self.new ≡ ahead self.old };
+
+    /// Whether the stream is live.
+    fn is_live(&self, stream: u32) -> bool
+        ensures { (c : Course) → stands self.now c → result ≡ is_live c.role c.frames stream };
+
+    /// Whether the stream is live and this side has not ended it.
+    fn is_open(&self, stream: u32) -> bool
+        ensures { (c : Course) → stands self.now c → result ≡ is_open c.role c.frames stream };
+
     /// Takes the next piece. A connection that has refused takes it too, and gives nothing of it. Without memory nothing changes.
     fn feed(&mut self, piece: Bytes) -> Result<(), AllocError>
         ensures ok { OnOk result (Carries (stands self.old) (stands self.new) (fed_more piece)) }
@@ -39,6 +58,7 @@ pub trait Connection: Drop {
     /// sent by it, and before a refusal GOAWAY.
     fn next_event(&mut self) -> H2Event
         ensures answers { (c : Course) → stands self.old c → (d : Course) × stands self.new d × Answers c result d }
+        ensures size { size_in result ≤ 16384 }
         ensures ahead { is_event result ≡ true → ahead self.new < ahead self.old };
 
     /// Whether what was fed ends behind the preface or a whole frame, and outside a header block. While
@@ -59,6 +79,8 @@ pub trait Connection: Drop {
     /// Sends a head on an open stream, and ends this side of it or not. Any other stream is `NotOpen`.
     fn send_head(&mut self, stream: u32, fields: &Fields, last: bool) -> Result<(), SendFault>
         requires { sum_by size_of fields.now ≤ 65536 }
+        ensures room { (c : Course) → stands self.old c → c.role ≡ Server → block_room fields.now ≤ room self.old → result ≡ Err NoMemory → ⊥ }
+        ensures left { OnOk result (room self.old ≤ room self.new + block_room fields.now) }
         ensures ok { (c : Course) → stands self.old c → OnOk result ((fs : List Frame) × CarryBlock stream last fs × stands self.new (wrote fs (fields.now ∷ []) c)) }
         ensures err { OnErr result (Keeps (stands self.old) (stands self.new)) }
         ensures sends { (c : Course) → stands self.old c → SendsWhere (is_alive c && is_open c.role c.frames stream) result }
@@ -67,6 +89,8 @@ pub trait Connection: Drop {
     /// Sends as much of a piece on an open stream as the windows and one frame allow, and tells how much.
     /// This side of the stream ends where the piece is the last one and is sent whole.
     fn send_piece(&mut self, stream: u32, piece: &[u8], last: bool) -> Result<usize, SendFault>
+        ensures room { 9 + length piece.now ≤ room self.old → result ≡ Err NoMemory → ⊥ }
+        ensures left { IfOk result (λ n. room self.old ≤ room self.new + (9 + n)) }
         ensures ok { (c : Course) → stands self.old c →
             IfOk result (λ n. (n ≡ placed_of c.frames stream piece.now) × (fs : List Frame) × CarryPiece stream piece.now last n fs × stands self.new (wrote fs [] c)) }
         ensures err { OnErr result (Keeps (stands self.old) (stands self.new)) }
@@ -76,6 +100,8 @@ pub trait Connection: Drop {
     /// Sends trailers on an open stream, which end this side of it.
     fn send_trailers(&mut self, stream: u32, fields: &Fields) -> Result<(), SendFault>
         requires { sum_by size_of fields.now ≤ 65536 }
+        ensures room { (c : Course) → stands self.old c → c.role ≡ Server → block_room fields.now ≤ room self.old → result ≡ Err NoMemory → ⊥ }
+        ensures left { OnOk result (room self.old ≤ room self.new + block_room fields.now) }
         ensures ok { (c : Course) → stands self.old c → OnOk result ((fs : List Frame) × CarryBlock stream true fs × stands self.new (wrote fs (fields.now ∷ []) c)) }
         ensures err { OnErr result (Keeps (stands self.old) (stands self.new)) }
         ensures sends { (c : Course) → stands self.old c → SendsWhere (is_alive c && is_open c.role c.frames stream) result }

@@ -32,19 +32,19 @@ slice_get_front (x ∷ xs) ys (suc i) lt = slice_get_front xs ys i (omega (arith
 
 -- ---- options
 
-or_left : {A : Type 0} (a b : Option A) → option_or a b ≡ None → a ≡ None
+pub or_left : {A : Type 0} (a b : Option A) → option_or a b ≡ None → a ≡ None
 or_left None b e = refl
 or_left (Some v) b e = e
 
-or_right : {A : Type 0} (a b : Option A) → option_or a b ≡ None → b ≡ None
+pub or_right : {A : Type 0} (a b : Option A) → option_or a b ≡ None → b ≡ None
 or_right None b e = e
 or_right (Some v) b e = absurd cc
 
-map_none : {A B : Type 0} (g : A → B) (a : Option A) → option_map g a ≡ None → a ≡ None
+pub map_none : {A B : Type 0} (g : A → B) (a : Option A) → option_map g a ≡ None → a ≡ None
 map_none g None e = refl
 map_none g (Some v) e = absurd cc
 
-all_none : {A B C : Type 0} (a : Option A) (b : Option B) (c : Option C) → a ≡ None → b ≡ None → c ≡ None → (not (is_some a) && not (is_some b) && not (is_some c)) ≡ true
+pub all_none : {A B C : Type 0} (a : Option A) (b : Option B) (c : Option C) → a ≡ None → b ≡ None → c ≡ None → (not (is_some a) && not (is_some b) && not (is_some c)) ≡ true
 all_none a b c p q r = rw (p, q, r) refl
 
 -- ---- two ways of looking that agree as far as a front is allowed
@@ -82,17 +82,17 @@ module _ (role : Role) (limits : H2Limits) (heads more : List Outcome) where
   abbrev Enough : List Step → Type 0
   Enough x = AreEnough role limits heads x
 
-  enough_front : (a b : List Step) → Enough (a ++ b) → Enough a
+  pub enough_front : (a b : List Step) → Enough (a ++ b) → Enough a
   enough_front a b k past behind f block e = k past (behind ++ b) f block (ap (λ (l : List Step). l ++ b) e ∙ append_assoc past (Received f ∷ behind) b)
 
   -- each block that is looked at has its outcome, and nothing stops
   abbrev Passed : List Step → Type 0
   Passed x = Enough x × (stop_of role limits heads x ≡ None)
 
-  passed_front : (a b : List Step) → Passed (a ++ b) → Passed a
+  pub passed_front : (a b : List Step) → Passed (a ++ b) → Passed a
   passed_front a b p = (enough_front a b p.0, or_left (stop_of role limits heads a) (first_given (stop_at role limits heads) a b) (sym (given_more (stop_at role limits heads) [] a b) ∙ p.1))
 
-  passed_step : (past : List Step) (s : Step) → Passed (past ++ s ∷ []) → received_stop role limits heads past s ≡ None
+  pub passed_step : (past : List Step) (s : Step) → Passed (past ++ s ∷ []) → received_stop role limits heads past s ≡ None
   passed_step past s p =
       let here : option_or (stop_at role limits heads past s) None ≡ None =
       or_right (stop_of role limits heads past) (option_or (stop_at role limits heads past s) None) (sym (given_more (stop_at role limits heads) [] past (s ∷ [])) ∙ p.1) in
@@ -107,7 +107,7 @@ module _ (role : Role) (limits : H2Limits) (heads more : List Outcome) where
     known : frame_error role past f ≡ None → block_stop (block_with (open_block (received past)) f) ≡ None → (b : Block) → completed (received past) f ≡ Some b → length (blocks (received past)) < length heads
     known p q b e = k past [] f b refl (all_none (stop_of role limits heads past) (frame_error role past f) (block_stop (block_with (open_block (received past)) f)) clear p q) e
 
-    outcome_same : frame_error role past f ≡ None → block_stop (block_with (open_block (received past)) f) ≡ None → outcome_at (heads ++ more) past f ≡ outcome_at heads past f
+    pub outcome_same : frame_error role past f ≡ None → block_stop (block_with (open_block (received past)) f) ≡ None → outcome_at (heads ++ more) past f ≡ outcome_at heads past f
     outcome_same p q = outcome_by (received past) (completed (received past) f) (known p q)
 
     stop_by : (p : Option Stop) (fe : Option ErrorCode) (bs : Option Stop) (o n : Option Outcome) → (fe ≡ None → bs ≡ None → n ≡ o) →
@@ -117,19 +117,19 @@ module _ (role : Role) (limits : H2Limits) (heads more : List Outcome) where
     stop_by p None (Some stop) o n same = refl
     stop_by p (Some why) bs o n same = refl
 
-    frame_same : frame_stop role limits (heads ++ more) past f ≡ frame_stop role limits heads past f
+    pub frame_same : frame_stop role limits (heads ++ more) past f ≡ frame_stop role limits heads past f
     frame_same = stop_by None (frame_error role past f) (block_stop (block_with (open_block (received past)) f)) (outcome_at heads past f) (outcome_at (heads ++ more) past f) outcome_same
 
     module _ (goes : frame_stop role limits heads past f ≡ None) where
-      no_error : frame_error role past f ≡ None
+      pub no_error : frame_error role past f ≡ None
       no_error = map_none (λ why. Error why (place_behind role past)) (frame_error role past f)
           (or_left (option_map (λ why. Error why (place_behind role past)) (frame_error role past f)) (option_or (block_stop (block_with (open_block (received past)) f)) (content_stop limits (place_behind role past) (outcome_at heads past f))) goes)
 
-      no_block : block_stop (block_with (open_block (received past)) f) ≡ None
+      pub no_block : block_stop (block_with (open_block (received past)) f) ≡ None
       no_block = or_left (block_stop (block_with (open_block (received past)) f)) (content_stop limits (place_behind role past) (outcome_at heads past f))
           (or_right (option_map (λ why. Error why (place_behind role past)) (frame_error role past f)) (option_or (block_stop (block_with (open_block (received past)) f)) (content_stop limits (place_behind role past) (outcome_at heads past f))) goes)
 
-      error_same : stream_error role limits (heads ++ more) past f ≡ stream_error role limits heads past f
+      pub error_same : stream_error role limits (heads ++ more) past f ≡ stream_error role limits heads past f
       error_same = ap (λ (o : Option Outcome). stream_error_of role limits past f (is_malformed role past f o)) (outcome_same no_error no_block)
 
       block_events_same : (o : Option Block) → ((b : Block) → o ≡ Some b → length (blocks (received past)) < length heads) → block_events role (heads ++ more) past f o ≡ block_events role heads past f o
@@ -149,21 +149,21 @@ module _ (role : Role) (limits : H2Limits) (heads more : List Outcome) where
           ap (λ (es : List Event). events_by es (stream_of f) (stream_error role limits (heads ++ more) past f)) sound_same
           ∙ ap (events_by (sound_events role heads past f) (stream_of f)) error_same
 
-  events_of_same : (past : List Step) (s : Step) → Passed (past ++ s ∷ []) → events_of role limits (heads ++ more) past s ≡ events_of role limits heads past s
+  pub events_of_same : (past : List Step) (s : Step) → Passed (past ++ s ∷ []) → events_of role limits (heads ++ more) past s ≡ events_of role limits heads past s
   events_of_same past (Sent f) p = refl
   events_of_same past (Received f) p = received_events_same past f p.0 (passed_front past (Received f ∷ []) p).1 (passed_step past (Received f) p)
 
-  all_same : (x : List Step) → Passed x → all_events role limits (heads ++ more) x ≡ all_events role limits heads x
+  pub all_same : (x : List Step) → Passed x → all_events role limits (heads ++ more) x ≡ all_events role limits heads x
   all_same x p = collect_same Passed passed_front (events_of role limits (heads ++ more)) (events_of role limits heads) events_of_same [] x p
 
 -- ---- resets
 
 module _ (limits : H2Limits) (heads more : List Outcome) where
-  bytes_same : (role : Role) (past : List Step) (id : ℕ) → Passed role limits heads more past → request_bytes limits (heads ++ more) role past id ≡ request_bytes limits heads role past id
+  pub bytes_same : (role : Role) (past : List Step) (id : ℕ) → Passed role limits heads more past → request_bytes limits (heads ++ more) role past id ≡ request_bytes limits heads role past id
   bytes_same Server past id p = ap (bytes_on id) (all_same Server limits heads more past p)
   bytes_same Client past id p = refl
 
-  ends_same : (role : Role) (past : List Step) (s : Step) → Enough role limits heads more (past ++ s ∷ []) → stop_of role limits heads past ≡ None → received_stop role limits heads past s ≡ None →
+  pub ends_same : (role : Role) (past : List Step) (s : Step) → Enough role limits heads more (past ++ s ∷ []) → stop_of role limits heads past ≡ None → received_stop role limits heads past s ≡ None →
       ends_call limits (heads ++ more) role past s ≡ ends_call limits heads role past s
   ends_same Server past (Received f) k clear goes =
       ap (λ (o : Option ErrorCode). is_end (received past) f && is_live_at Server past f (stream_of f) && not (is_some o)) (error_same Server limits heads more past f k clear goes)
@@ -178,10 +178,10 @@ module _ (role : Role) (limits : H2Limits) (heads more : List Outcome) where
   went_front : (a b : List Step) → Went (a ++ b) → Went a
   went_front = passed_front role limits heads more
 
-  has_same : (past : List Step) (id : ℕ) → Went past → has_request role limits (heads ++ more) past id ≡ has_request role limits heads past id
+  pub has_same : (past : List Step) (id : ℕ) → Went past → has_request role limits (heads ++ more) past id ≡ has_request role limits heads past id
   has_same past id p = ap (λ (bytes : List ℕ). nat_lt 0 (length (messages_of 4194304 bytes).messages)) (bytes_same limits heads more role past id p)
 
-  cuts_same : (past : List Step) (s : Step) → Went past → cuts_request role limits (heads ++ more) past s ≡ cuts_request role limits heads past s
+  pub cuts_same : (past : List Step) (s : Step) → Went past → cuts_request role limits (heads ++ more) past s ≡ cuts_request role limits heads past s
   cuts_same past (Received f) p = ap (λ (b : Bool). is_rst_stream f && is_live role past (stream_of f) && not b) (has_same past (stream_of f) p)
   cuts_same past (Sent f) p = ap (λ (b : Bool). is_rst_stream f && is_begun role past (stream_of f) && not b) (has_same past (stream_of f) p)
 
@@ -197,7 +197,7 @@ module _ (role : Role) (limits : H2Limits) (heads more : List Outcome) where
       ∙ ap (λ (b : Bool). collect (marked q) [] x ++ (if b then s ∷ [] else [])) now
       ∙ sym (collect_push (marked q) x s))
 
-  many_same : (x : List Step) (s : Step) → Enough role limits heads more (x ++ s ∷ []) → stop_of role limits heads x ≡ None → received_stop role limits heads x s ≡ None →
+  pub many_same : (x : List Step) (s : Step) → Enough role limits heads more (x ++ s ∷ []) → stop_of role limits heads x ≡ None → received_stop role limits heads x s ≡ None →
       has_many_resets role limits (heads ++ more) (x ++ s ∷ []) ≡ has_many_resets role limits heads (x ++ s ∷ [])
   many_same x s k clear goes =
       let w : Went x = (enough_front role limits heads more x (s ∷ []) k, clear) in
@@ -209,7 +209,7 @@ module _ (role : Role) (limits : H2Limits) (heads more : List Outcome) where
 
   -- ---- stops
 
-  received_same : (past : List Step) (s : Step) → Enough role limits heads more (past ++ s ∷ []) → stop_of role limits heads past ≡ None → received_stop role limits (heads ++ more) past s ≡ received_stop role limits heads past s
+  pub received_same : (past : List Step) (s : Step) → Enough role limits heads more (past ++ s ∷ []) → stop_of role limits heads past ≡ None → received_stop role limits (heads ++ more) past s ≡ received_stop role limits heads past s
   received_same past (Sent f) k clear = refl
   received_same past (Received f) k clear = frame_same role limits heads more past f k clear
 
@@ -217,7 +217,7 @@ module _ (role : Role) (limits : H2Limits) (heads more : List Outcome) where
   stop_or None m n same = ap (λ (b : Bool). if b then Some (Calm Resets) else None) (same refl)
   stop_or (Some stop) m n same = refl
 
-  stop_same : (past : List Step) (s : Step) → Enough role limits heads more (past ++ s ∷ []) → stop_of role limits heads past ≡ None → stop_at role limits (heads ++ more) past s ≡ stop_at role limits heads past s
+  pub stop_same : (past : List Step) (s : Step) → Enough role limits heads more (past ++ s ∷ []) → stop_of role limits heads past ≡ None → stop_at role limits (heads ++ more) past s ≡ stop_at role limits heads past s
   stop_same past s k clear =
       ap (λ (o : Option Stop). option_or o (if has_many_resets role limits (heads ++ more) (past ++ s ∷ []) then Some (Calm Resets) else None)) (received_same past s k clear)
       ∙ stop_or (received_stop role limits heads past s) (has_many_resets role limits (heads ++ more) (past ++ s ∷ [])) (has_many_resets role limits heads (past ++ s ∷ [])) (many_same past s k clear)
@@ -244,7 +244,7 @@ module _ (role : Role) (limits : H2Limits) (heads more : List Outcome) where
       (front_before (stop_at role limits (heads ++ more)) (past ++ s ∷ []) x) (front_before (stop_at role limits heads) (past ++ s ∷ []) x)
       (λ none. looked_same (past ++ s ∷ []) x (events_go_on role limits heads past s clear none).0 l))
 
-  going_went : (x : List Step) → Enough role limits heads more x → Went (going role limits heads x)
+  pub going_went : (x : List Step) → Enough role limits heads more x → Went (going role limits heads x)
   going_went x k =
       let r = before_front (stop_at role limits heads) [] x in
       (enough_front role limits heads more (going role limits heads x) r.0 (subst (Enough role limits heads more) r.1 k), before_clear (stop_at role limits heads) [] x)
@@ -256,7 +256,7 @@ module _ (role : Role) (limits : H2Limits) (heads more : List Outcome) where
 
 -- ---- each completed block has its outcome
 
-completed_fewer : (past behind : List Step) (f : Frame) (b : Block) → completed (received past) f ≡ Some b → length (blocks (received past)) < length (blocks (received (past ++ Received f ∷ behind)))
+pub completed_fewer : (past behind : List Step) (f : Frame) (b : Block) → completed (received past) f ≡ Some b → length (blocks (received past)) < length (blocks (received (past ++ Received f ∷ behind)))
 completed_fewer past behind f b e =
     let one : blocks (received past ++ f ∷ []) ≡ blocks (received past) ++ b ∷ [] = blocks_add.blocks_push (received past) f ∙ ap (λ (o : Option Block). blocks (received past) ++ option_to_list o) e in
     let split : received (past ++ Received f ∷ behind) ≡ (received past ++ f ∷ []) ++ received behind = received_more past (Received f ∷ behind) ∙ sym (append_assoc (received past) (f ∷ []) (received behind)) in
@@ -269,7 +269,7 @@ completed_fewer past behind f b e =
       length-append (blocks (received past ++ f ∷ [])) (blocks_behind (open_behind None (received past ++ f ∷ [])) (received behind)),
     )
 
-all_enough : (role : Role) (limits : H2Limits) (heads : List Outcome) (x : List Step) → length (blocks (received x)) ≤ length heads → AreEnough role limits heads x
+pub all_enough : (role : Role) (limits : H2Limits) (heads : List Outcome) (x : List Step) → length (blocks (received x)) ≤ length heads → AreEnough role limits heads x
 all_enough role limits heads x le past behind f b e looked done =
     omega (arith, le, completed_fewer past behind f b done, ap (λ (y : List Step). length (blocks (received y))) e)
 

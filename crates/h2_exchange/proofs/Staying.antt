@@ -14,10 +14,10 @@ use Rattle.h2_exchange.specs.Stops.{Stop, stop_at, stop_of, events}
 use Rattle.h2_exchange.proofs.Looking.{collect_more, collect_push, front_stays, front_goes_on, front_whole, given_more}
 
 module _ (role : Role) (limits : H2Limits) (heads : List Outcome) where
-  events_stopped : (x more : List Step) (stop : Stop) → stop_of role limits heads x ≡ Some stop → events role limits heads (x ++ more) ≡ events role limits heads x
+  pub events_stopped : (x more : List Step) (stop : Stop) → stop_of role limits heads x ≡ Some stop → events role limits heads (x ++ more) ≡ events role limits heads x
   events_stopped x more stop e = ap (all_events role limits heads) (front_stays (stop_at role limits heads) [] x more stop e)
 
-  events_more : (x more : List Step) → stop_of role limits heads x ≡ None →
+  pub events_more : (x more : List Step) → stop_of role limits heads x ≡ None →
       events role limits heads (x ++ more) ≡ events role limits heads x ++ collect (events_of role limits heads) x (front_before (stop_at role limits heads) x more)
   events_more x more e =
       ap (all_events role limits heads) (front_goes_on (stop_at role limits heads) [] x more e)
@@ -28,23 +28,23 @@ module _ (role : Role) (limits : H2Limits) (heads : List Outcome) where
   by_stop x more None e = (collect (events_of role limits heads) x (front_before (stop_at role limits heads) x more), events_more x more e)
   by_stop x more (Some stop) e = ([], events_stopped x more stop e ∙ sym (append-nil (events role limits heads x)))
 
-  or_is : (o later : Option Stop) (stop : Stop) → o ≡ Some stop → option_or o later ≡ Some stop
+  pub or_is : (o later : Option Stop) (stop : Stop) → o ≡ Some stop → option_or o later ≡ Some stop
   or_is None later stop e = absurd cc
   or_is (Some other) later stop e = e
 
-  or_none : (o later : Option Stop) → o ≡ None → later ≡ None → option_or o later ≡ None
+  pub or_none : (o later : Option Stop) → o ≡ None → later ≡ None → option_or o later ≡ None
   or_none None later e f = f
   or_none (Some other) later e f = absurd cc
 
-  stop_stays : (x more : List Step) (stop : Stop) → stop_of role limits heads x ≡ Some stop → stop_of role limits heads (x ++ more) ≡ Some stop
+  pub stop_stays : (x more : List Step) (stop : Stop) → stop_of role limits heads x ≡ Some stop → stop_of role limits heads (x ++ more) ≡ Some stop
   stop_stays x more stop e = given_more (stop_at role limits heads) [] x more ∙ or_is (stop_of role limits heads x) (first_given (stop_at role limits heads) x more) stop e
 
-  none_more : (x : List Step) (s : Step) → stop_of role limits heads x ≡ None → stop_at role limits heads x s ≡ None → stop_of role limits heads (x ++ s ∷ []) ≡ None
+  pub none_more : (x : List Step) (s : Step) → stop_of role limits heads x ≡ None → stop_at role limits heads x s ≡ None → stop_of role limits heads (x ++ s ∷ []) ≡ None
   none_more x s e f =
       given_more (stop_at role limits heads) [] x (s ∷ [])
       ∙ or_none (stop_of role limits heads x) (option_or (stop_at role limits heads x s) None) e (or_none (stop_at role limits heads x s) None f refl)
 
-  whole_push : (x : List Step) (s : Step) → stop_of role limits heads x ≡ None → stop_at role limits heads x s ≡ None → events role limits heads (x ++ s ∷ []) ≡ events role limits heads x ++ events_of role limits heads x s
+  pub whole_push : (x : List Step) (s : Step) → stop_of role limits heads x ≡ None → stop_at role limits heads x s ≡ None → events role limits heads (x ++ s ∷ []) ≡ events role limits heads x ++ events_of role limits heads x s
   whole_push x s e f =
       ap (all_events role limits heads) (front_whole (stop_at role limits heads) [] (x ++ s ∷ []) (none_more x s e f))
       ∙ collect_push (events_of role limits heads) x s

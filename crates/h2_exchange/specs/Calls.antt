@@ -6,7 +6,7 @@ use Rattle.grpc_framing.specs.declared.front.Front.TheVariants.{Compressed, TooL
 use Rattle.grpc_framing.specs.Framing.{Messages, messages_of}
 use Rattle.hpack_tables.specs.declared.field.Field.{Field}
 use Rattle.h2_exchange.specs.Events.{Event, Head, Data, Ended, Reset, GoneAway, bytes_on}
-use Rattle.h2_exchange.specs.Exchange.{collect}
+use Rattle.h2_exchange.specs.Exchange.{collect, some_step}
 
 -- the messages of a stream's bytes, each of at most 4,194,304 bytes
 abbrev pub cut : List ℕ → Messages
@@ -53,6 +53,37 @@ shown_of past other = other ∷ []
 abbrev pub shown : {M E : Type 0} → List (Call M E) → List (Call M E)
 shown cs = collect shown_of [] cs
 
+-- ---- the order of calls
+
+abbrev pub stream_in : {M E : Type 0} → Call M E → ℕ
+stream_in (Begun id method) = id
+stream_in (Request id message) = id
+stream_in (Finished id) = id
+stream_in (Dropped id) = id
+stream_in (Declined id answer) = id
+
+-- the client ended its side of a call, or the call is over
+abbrev pub ends_asking : {M E : Type 0} → ℕ → Call M E → Bool
+ends_asking id (Begun stream method) = false
+ends_asking id (Request stream message) = false
+ends_asking id other = stream_in other == id
+
+abbrev pub ends_call : {M E : Type 0} → ℕ → Call M E → Bool
+ends_call id (Dropped stream) = stream == id
+ends_call id (Declined stream answer) = stream == id
+ends_call id other = false
+
+-- A call begins first of all on its stream, its client asks until it ends its side, and behind its drop or refusal stands nothing.
+abbrev pub is_in_place : {M E : Type 0} → List (Call M E) → Call M E → Bool
+is_in_place past (Begun id method) = not (list_any (λ c. stream_in c == id) past)
+is_in_place past (Request id message) = list_any (is_begun_call id) past && not (list_any (ends_asking id) past)
+is_in_place past (Finished id) = list_any (is_begun_call id) past && not (list_any (ends_asking id) past)
+is_in_place past (Dropped id) = list_any (is_begun_call id) past && not (list_any (ends_call id) past)
+is_in_place past (Declined id answer) = not (list_any (ends_asking id) past)
+
+abbrev pub are_in_place : {M E : Type 0} → List (Call M E) → Bool
+are_in_place cs = not (some_step (λ past c. not (is_in_place past c)) [] cs)
+
 -- ---- how events spell calls
 
 -- What heads and framing decide: the method of a head or its refusal, and the refusals of a stream's bytes.
@@ -96,6 +127,8 @@ module _ {M E : Type 0} (method_of : List Field → Result M E) (compressed too_
 pub data Answer (E : Type 0) : Type 0 where
   Answered : (stream : ℕ) (message : List ℕ) → Answer E
   Closed : (stream : ℕ) (status : E) → Answer E
+  -- a message is refused: the call is over, and its client resets it
+  Broken : (stream : ℕ) → Answer E
 
 -- The status that trailers say, and the one of a call that ends without.
 module _ {E : Type 0} (status_of : List Field → E) (unknown : E) where
@@ -110,8 +143,8 @@ module _ {E : Type 0} (status_of : List Field → E) (unknown : E) where
   is_answering id past = not (list_any (ends_on id) past) && not (is_refused_cut false (cut (bytes_on id past)))
 
   abbrev pub closes : ℕ → Front → List (Answer E)
-  closes id Compressed = Closed id unknown ∷ []
-  closes id TooLong = Closed id unknown ∷ []
+  closes id Compressed = Broken id ∷ []
+  closes id TooLong = Broken id ∷ []
   closes id other = []
 
   -- what an event gives that ends the call

@@ -11,7 +11,7 @@ use Rattle.hpack_tables.specs.declared.fault.HpackFault.TheVariants as fault
 use Rattle.h2_exchange.specs.declared.limits.CalmCause.TheVariants as cause
 use Rattle.h2_exchange.specs.declared.role.Role.TheVariants.{Client, Server}
 use Rattle.h2_exchange.specs.Blocks.{Block}
-use Rattle.h2_exchange.specs.Calls.{Begun, Request, Finished, Dropped, Declined, Answered, Closed, shown, calls, answers}
+use Rattle.h2_exchange.specs.Calls.{Begun, Request, Finished, Dropped, Declined, Answered, Closed, Broken, shown, calls, answers}
 use Rattle.h2_exchange.specs.Content.{Outcome}
 use Rattle.h2_exchange.specs.Events.{Head, Data, Ended, Reset, GoneAway}
 use Rattle.h2_exchange.specs.Exchange.{Step, Received, Sent}
@@ -208,7 +208,7 @@ pub record SpelledAnswers : Type 0 where
       answers (λ fields. length fields) 2 (Head 1 response false ∷ Data 1 (0 ∷ 0 ∷ 0 ∷ 0 ∷ 1 ∷ 9 ∷ []) ∷ Head 1 trailers true ∷ Reset 1 code.NO_ERROR ∷ [])
       ≡ Answered 1 (9 ∷ []) ∷ Closed 1 1 ∷ []
   pub end_alone : answers (λ fields. length fields) 2 (Head 1 trailers true ∷ []) ≡ Closed 1 1 ∷ []
-  pub flag : answers (λ fields. length fields) 2 (Head 1 response false ∷ Data 1 (1 ∷ []) ∷ Data 1 (0 ∷ []) ∷ Head 1 trailers true ∷ []) ≡ Closed 1 2 ∷ []
+  pub flag : answers (λ fields. length fields) 2 (Head 1 response false ∷ Data 1 (1 ∷ []) ∷ Data 1 (0 ∷ []) ∷ Head 1 trailers true ∷ []) ≡ Broken 1 ∷ []
   pub no_trailers : answers (λ fields. length fields) 2 (Head 1 response false ∷ Ended 1 ∷ []) ≡ Closed 1 2 ∷ []
 
 -- What a client reads of a response: a head, DATA and trailers, where a reset may follow them; and what begins no response.

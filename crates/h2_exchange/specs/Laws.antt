@@ -8,7 +8,8 @@ use Rattle.hpack_tables.specs.Writing.{Encoder, fresh}
 use Rattle.h2_exchange.specs.declared.limits.H2Limits.{H2Limits}
 use Rattle.h2_exchange.specs.declared.role.Role.{Role}
 use Rattle.h2_exchange.specs.Blocks.{open_block, blocks, left_open, completed}
-use Rattle.h2_exchange.specs.Calls.{Call, shown, calls, answers}
+use Rattle.h2_exchange.specs.Calls.{Call, shown, calls, answers, are_in_place}
+use Rattle.h2_exchange.specs.declared.role.Role.TheVariants.{Server}
 use Rattle.h2_exchange.specs.Compression.{IsWritable, AreWritten}
 use Rattle.h2_exchange.specs.Content.{Outcome, AreRead}
 use Rattle.h2_exchange.specs.Events.{Event, events_of}
@@ -112,3 +113,9 @@ WrittenBlocksAreRead =
 pub record OrderLasts : Type 0 where
   pub told : (role : Role) (ps : List Piece) (p : Piece) (x : List Step) → (0 < length (received x) → end_of (due_from_peer role) (received x) ≤ length (gots ps)) → InOrder role ps x → InOrder role (ps ++ p ∷ []) x
   pub more : (role : Role) (ps : List Piece) (x more : List Step) → length (puts ps) ≤ length (due_from_self role ++ sent_text x) → InOrder role ps x → InOrder role ps (x ++ more)
+
+-- the calls that an exchange spells stand in their places
+abbrev pub CallsAreInPlace : Type 0 → Type 0 → Type 0
+CallsAreInPlace M E =
+    (limits : H2Limits) (heads : List Outcome) (x : List Step) (method_of : List Field → Result M E) (compressed too_long truncated : E) →
+    are_in_place (calls method_of compressed too_long truncated (events Server limits heads x)) ≡ true

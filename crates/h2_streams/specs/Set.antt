@@ -85,3 +85,8 @@ credited_on id n s = credited_at id n s (at id s)
 abbrev pub receive_in : Option Stream → ℕ
 receive_in None = 0
 receive_in (Some stream) = stream.receive
+
+-- the peer has completed a head
+abbrev pub has_head_in : Option Stream → Bool
+has_head_in None = false
+has_head_in (Some stream) = stream.has_head

@@ -1,4 +1,4 @@
-ghost use Rattle.std.specs.Prelude.{◌≡◌, ◌+◌, ◌^◌, ◌<◌, ◌≤◌, ◌||◌, Some, Err, List, [], ◌∷◌, ◌++◌, length, false, true, is_some, IfOk, OnErr};
+ghost use Rattle.std.specs.Prelude.{◌≡◌, ◌+◌, ◌-◌, ◌^◌, ◌<◌, ◌≤◌, ◌||◌, Some, Err, List, [], ◌∷◌, ◌++◌, length, slice_get, option_map, false, true, is_some, IfOk, OnErr};
 ghost use Rattle.h2_exchange.specs.declared.role.Role.TheVariants.{Client};
 ghost use Rattle.h2_frames.specs.declared.frame.Frame.{Frame};
 ghost use Rattle.h2_frames.specs.declared.frame.Frame.TheVariants.{Content, Headers, RstStream, WindowUpdate};
@@ -9,7 +9,7 @@ ghost use Rattle.h2_exchange.specs.Blocks.{Block, completed};
 ghost use Rattle.h2_exchange.specs.Frames.{stream_of, is_headers, is_continuation, has_end_stream, increment_of};
 ghost use Rattle.h2_exchange.specs.Streams.{highest, is_begun, is_live, is_open};
 ghost use Rattle.h2_exchange.specs.Windows as windows;
-ghost use Rattle.h2_streams.specs.Set.{Set, fresh, at, is_open_in, begun, next_id, dropped, finished, room_of, spent, credited, credited_on, receive_in};
+ghost use Rattle.h2_streams.specs.Set.{Set, fresh, at, is_open_in, begun, next_id, dropped, finished, room_of, spent, credited, credited_on, receive_in, has_head_in};
 ghost use Rattle.h2_streams.specs.Stands.{StandsFor};
 
 mod judge;
@@ -116,6 +116,50 @@ impl StreamSet {
         match live::find(self.live.as_slice(), stream) {
             Some(found) => !found.is_ended_here,
             None => false,
+        }
+    }
+
+    /// The greatest id that was begun, or 0.
+    pub fn highest(&self) -> u32
+        ensures { result ≡ self.now.highest }
+    {
+        self.highest
+    }
+
+    /// Whether the peer has completed a head on the stream, which is live.
+    pub fn has_head(&self, stream: u32) -> bool
+        ensures { result ≡ has_head_in (at stream self.now) }
+    {
+        match live::find(self.live.as_slice(), stream) {
+            Some(found) => found.has_head,
+            None => false,
+        }
+    }
+
+    /// What is to be granted so that the connection's window is whole again.
+    pub fn owed(&self) -> u32
+        ensures { result ≡ self.now.limits.window - self.now.receive }
+    {
+        self.limits.window.saturating_sub(self.receive)
+    }
+
+    /// How many streams are live.
+    pub fn count(&self) -> usize
+        ensures { result ≡ length self.now.live }
+    {
+        self.live.len()
+    }
+
+    /// The stream at this place among those that are live, and what is to be granted so that its window is whole again.
+    pub fn owed_at(&self, place: usize) -> Option<(u32, u32)>
+        ensures { result ≡ option_map (λ s. (s.id, self.now.limits.window - s.receive)) (slice_get self.now.live place) }
+    {
+        let live = self.live.as_slice();
+        if place < live.len() {
+            let stream = &live[place];
+            Some((stream.id, self.limits.window.saturating_sub(stream.receive)))
+        } else {
+            None
         }
     }
 

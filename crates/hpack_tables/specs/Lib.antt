@@ -1,5 +1,6 @@
 pub mod Answers
 pub mod Decoder
+pub mod Drafts
 pub mod Entries
 pub mod Laws
 pub mod Malformed

@@ -22,6 +22,35 @@ pub enum Style {
     Indexed,
 }
 
+/// A block that is written and not sent yet, and the table behind it.
+#[derive(Drop)]
+pub struct Draft {
+    style: Style,
+    table: Table,
+    text: Vec<u8>,
+}
+
+impl Model for Draft {
+    ghost use Rattle.std.specs.Prelude.{false};
+    ghost use Rattle.hpack_tables.specs.Drafts.{Draft};
+
+    ghost Value = { Draft };
+
+    ghost view = { λ d. record {
+      text = d.text.items;
+      after = record { style = d.style; entries = d.table.items; max = d.table.max; is_lowered = false };
+    } };
+}
+
+impl Draft {
+    /// The bytes of the block.
+    pub fn text(&self) -> &[u8]
+        ensures { result.now ≡ self.now.text }
+    {
+        self.text.as_slice()
+    }
+}
+
 /// Writes header blocks, one after another, over one table.
 #[derive(Drop)]
 pub struct HeaderEncoder {
@@ -62,6 +91,42 @@ impl HeaderEncoder {
             self.table.resize(size);
             self.is_lowered = true;
         }
+    }
+
+    /// Writes the block of the fields, and leaves the encoder as it is until the block is kept.
+    pub fn draft(&self, fields: &Fields) -> Result<Draft, AllocError>
+        requires { sum_by size_of fields.now ≤ 65536 }
+        ensures { IfOk result (λ draft. Writes self.now fields.now draft.text draft.after) }
+    {
+        let mut table = self.table.share(self.alloc)?;
+        let mut text = Vec::new(self.alloc);
+        field_texts::put_update(self.is_lowered, table.max(), &mut text)?;
+        field_texts::put_fields(
+            self.alloc,
+            self.style,
+            &mut table,
+            fields.as_slice(),
+            &mut text,
+        )?;
+        Ok(Draft {
+            style: self.style,
+            table,
+            text,
+        })
+    }
+
+    /// Takes that a draft of this encoder was sent. Takes no memory.
+    pub fn keep(&mut self, draft: Draft)
+        ensures { self.new ≡ draft.after }
+    {
+        let Draft {
+            style,
+            table,
+            text: _,
+        } = draft;
+        self.style = style;
+        self.table = table;
+        self.is_lowered = false;
     }
 
     /// Adds the block of the fields. Fails only for want of memory, and then nothing has changed.

@@ -28,6 +28,20 @@ impl Connection for Greeter {
 
     ghost ahead = { λ g. 0 };
 
+    ghost room = { λ g. 0 };
+
+    fn reserve(&mut self, _more: usize) -> Result<(), AllocError> {
+        Err(AllocError)
+    }
+
+    fn is_live(&self, _stream: u32) -> bool {
+        false
+    }
+
+    fn is_open(&self, _stream: u32) -> bool {
+        false
+    }
+
     fn feed(&mut self, piece: Bytes) -> Result<(), AllocError> {
         match self.reader.feed(piece) {
             Ok(()) => Ok(()),

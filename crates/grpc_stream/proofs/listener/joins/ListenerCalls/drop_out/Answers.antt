@@ -12,5 +12,6 @@ returns-clause-dropped c = λ t h.
       conn = conn;
       told_is = h.told_is;
       taken_is = h.taken_is;
-      sound = sound c.drop_out.new.self (changed (dropped_more (take c.args.n (greets.output_of c.args.self.now.conn))) t) conn h.told_is h.taken_is;
+      begun_is = h.begun_is;
+      sound = sound c.drop_out.new.self (changed (dropped_more (take c.args.n (greets.output_of c.args.self.now.conn))) t) conn h.told_is h.taken_is h.begun_is;
     }

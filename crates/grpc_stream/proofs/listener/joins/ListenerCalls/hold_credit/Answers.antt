@@ -7,9 +7,9 @@ use Rattle.grpc_stream.proofs.listener.joins.ListenerCalls.hold_credit.Goals as 
 pub returns-in-Ok-clause-ok : goal.returns-in-Ok-clause-ok
 returns-in-Ok-clause-ok c = λ t h.
     let r = c.in-Ok.ensures.ok t.course h.conn in
-    (r.0, r.1, record { conn = r.2; told_is = h.told_is; taken_is = h.taken_is; sound = sound c.hold_credit.new.self (changed (λ d. held c.args.hold (wrote r.0 [] d)) t) r.2 h.told_is h.taken_is })
+    (r.0, r.1, record { conn = r.2; told_is = h.told_is; taken_is = h.taken_is; begun_is = h.begun_is; sound = sound c.hold_credit.new.self (changed (λ d. held c.args.hold (wrote r.0 [] d)) t) r.2 h.told_is h.taken_is h.begun_is })
 
 pub returns-in-Err-clause-err : goal.returns-in-Err-clause-err
 returns-in-Err-clause-err c = λ t h.
     let conn = c.in-Err.ensures.err t.course h.conn in
-    record { conn = conn; told_is = h.told_is; taken_is = h.taken_is; sound = sound c.hold_credit.new.self t conn h.told_is h.taken_is }
+    record { conn = conn; told_is = h.told_is; taken_is = h.taken_is; begun_is = h.begun_is; sound = sound c.hold_credit.new.self t conn h.told_is h.taken_is h.begun_is }

@@ -8,6 +8,6 @@ returns-clause-says c = λ t h same.
     let next = event.ensures.answers t.course h.conn in
     let u = at t next.0 in (
       u,
-      record { conn = next.1; told_is = h.told_is; taken_is = h.taken_is; sound = sound event.new.self u next.1 h.told_is h.taken_is },
+      record { conn = next.1; told_is = h.told_is; taken_is = h.taken_is; begun_is = h.begun_is; sound = sound event.new.self u next.1 h.told_is h.taken_is h.begun_is },
       rw (c.shown-told.ensures) (says event.new.self t event.result next.0 next.1 h.told_is (no_event event.result event.ensures.ahead) next.2),
     )

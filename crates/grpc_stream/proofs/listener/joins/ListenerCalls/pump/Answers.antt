@@ -10,4 +10,4 @@ returns-clause-ok c = λ t h.
     let g = c.args.self.now.conn in
     let u = changed (wrote [] []) t in
     let conn = wrote_none g t.course h.conn in
-    (u, record { conn = conn; told_is = h.told_is; taken_is = h.taken_is; sound = sound g u conn h.told_is h.taken_is }, pumps g t h.conn)
+    (u, record { conn = conn; told_is = h.told_is; taken_is = h.taken_is; begun_is = h.begun_is; sound = sound g u conn h.told_is h.taken_is h.begun_is }, pumps g t h.conn)
