@@ -15,7 +15,7 @@ forgets f has_done has_left status told r = record {
   left_is = r.left_is;
   whole = λ closing. let w = r.whole closing in (w.0, w.1, tt);
   still = r.still;
-  failed = λ e. tt;
+  failed = λ e. let h = r.failed e in (tt, h.1, h.2);
   over = r.over;
   answers = r.answers;
   part = r.part;
@@ -32,7 +32,7 @@ forgets_over f has_done has_left status input told r = record {
   unread = r.unread;
   refused = r.refused;
   server = λ closing. tt;
-  failed = λ e. tt;
+  failed = λ e. let h = r.failed e in (tt, h.1, h.2);
   answers = r.answers;
   part = r.part;
 }
@@ -62,7 +62,7 @@ lacks_memory f taken left before = record {
   left_is = nothing_left left;
   whole = λ closing. absurd (not_closing closing);
   still = λ closing. absurd (not_closing closing);
-  failed = λ e. tt;
+  failed = λ e. absurd cc;
   over = λ e. absurd cc;
   answers = λ which. nothing_written before (outcome_of f []).written;
   part = nothing_written before (output_of f []);
@@ -79,7 +79,7 @@ lacks_memory_over f input taken left before told = record {
   unread = λ e. absurd cc;
   refused = λ e. absurd cc;
   server = λ closing. tt;
-  failed = λ e. tt;
+  failed = λ e. absurd cc;
   answers = λ which. nothing_written before (outcome_of f []).written;
   part = nothing_written before (output_of f []);
 }

@@ -9,8 +9,8 @@ use Rattle.grpc_framing.specs.declared.front.Front.TheVariants.{NeedMore}
 use Rattle.grpc_framing.specs.Framing.{Messages, messages_of, all_then, items}
 use Rattle.grpc_framing.proofs.Fronts.{front_at-nil}
 use Rattle.grpc_framing.proofs.Streams.{messages_of-need_more}
-use Rattle.message_run.specs.Answering.{Answering, course_from}
-use Rattle.message_run.specs.Outcomes.{Close, Whole, Unread, Outcome, messages_in, outcome_at, outcome_of, close_at_rest, LIMIT, LONGEST}
+use Rattle.message_run.specs.Answering.{Answering, Course, course_from}
+use Rattle.message_run.specs.Outcomes.{Close, Whole, Unread, Outcome, messages_in, outcome_at, outcome_of, close_at_rest, IsGoingOn, LIMIT, LONGEST}
 use Rattle.message_run.specs.Written.{Wrote, WrotePart}
 use Rattle.message_run.specs.Reading.{Goes, StopsAt, Stopped, IsOfPieces, close_of, behind, stop_at}
 use Rattle.message_run.specs.Runs.{Told}
@@ -109,6 +109,12 @@ module _ (f : Answering) (stands : List (List ℕ) → Type 0) (told : Told) (he
   outcome_now : (count : ℕ) → outcome_at f count (messages_in h.bytes) ≡ record { done = h.on.reads.messages; written = h.on.sent; close = close_at_rest count (length (items h.on.reads.messages)) held NeedMore }
   outcome_now count = ap (outcome_at f count) (short_messages h.bytes (omega (arith, h.count, h.short))) ∙ outcome_at_rest f stands h.bytes held told.before told.after h.on count
 
+  cut_now : messages_in h.bytes ≡ record { messages = h.on.reads.messages; rest = held; ending = NeedMore }
+  cut_now = short_messages h.bytes (omega (arith, h.count, h.short)) ∙ cut_at_rest f stands h.bytes held told.before told.after h.on
+
+  going_now : IsGoingOn f h.bytes
+  going_now = (ap (λ (x : Messages). (course_from f [] x.messages).ending) cut_now ∙ ap (λ (x : Course). x.ending) (course_at_rest f stands h.bytes held told.before told.after h.on), ap (λ (x : Messages). x.ending) cut_now)
+
   few_now : length h.on.reads.messages ≤ LONGEST
   few_now = omega (arith, few_read f stands h.bytes held h.on.sent h.on.reads, h.count, h.short)
 
@@ -121,7 +127,7 @@ module _ (f : Answering) (stands : List (List ℕ) → Type 0) (told : Told) (he
     closes = λ close e. absurd cc;
     still = λ close e. absurd cc;
     over = λ e. absurd cc;
-    failed = λ e. rw (outcome_now (length h.bytes)) h.on.reads.stood;
+    failed = λ e. (rw (outcome_now (length h.bytes)) h.on.reads.stood, rw (outcome_now (length h.bytes)) h.on.wrote, going_now);
     answers = rw (outcome_now (length h.bytes)) (wrote_whole told.before told.after h.on.sent h.on.wrote);
   }
 

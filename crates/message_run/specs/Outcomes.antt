@@ -1,5 +1,5 @@
 -- What a run over an input comes to: what is written, what it closes with, and the status.
-use Rattle.std.specs.Prelude.{ℕ, ◌+◌, ◌^◌, List, [], ◌∷◌, ◌++◌, length, take, Option, Some, None, nat_lt, ◌==◌, if◌then◌else◌}
+use Rattle.std.specs.Prelude.{◌≡◌, ℕ, ◌+◌, ◌^◌, List, [], ◌∷◌, ◌++◌, length, take, Option, Some, None, nat_lt, ◌==◌, if◌then◌else◌}
 use Rattle.std.specs.Int.{w32, to_be_bytes}
 use Rattle.std.specs.Fmt.{decimal}
 use Rattle.grpc_framing.specs.declared.front.Front.{Front}
@@ -98,3 +98,7 @@ status_of f input = status_at (outcome_of f input).close
 -- the messages of an input that are done
 abbrev pub done_of : Answering → List ℕ → List (List ℕ)
 done_of f input = (outcome_of f input).done
+
+-- Nothing in these bytes ends the stream: it goes on behind each message, and more is needed at the rest.
+abbrev pub IsGoingOn : Answering → List ℕ → Type 0
+IsGoingOn f taken = ((course_from f [] (messages_in taken).messages).ending ≡ None) × ((messages_in taken).ending ≡ NeedMore)

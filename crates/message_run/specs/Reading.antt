@@ -4,7 +4,7 @@ use Rattle.std.specs.Option.{option_map}
 use Rattle.grpc_framing.specs.Framing.{front_at, messages_of, all_then, items}
 use Rattle.message_run.specs.Answering.{Answering, Course, course_from}
 use Rattle.grpc_framing.specs.declared.front.Front.TheVariants.{NeedMore}
-use Rattle.message_run.specs.Outcomes.{Close, Whole, Refused, Unread, outcome_at, outcome_of, LIMIT, LONGEST}
+use Rattle.message_run.specs.Outcomes.{Close, Whole, Refused, Unread, outcome_at, outcome_of, IsGoingOn, LIMIT, LONGEST}
 use Rattle.message_run.specs.Written.{Wrote, WrotePart}
 use Rattle.message_run.specs.Runs.{Told}
 use Rattle.message_run.specs.declared.stop.Stop.{Stop}
@@ -85,7 +85,7 @@ pub record Stopped (f : Answering) (stands : List (List ℕ) → Type 0) (stop :
   pub closes : (close : Close) → close_of stop ≡ Some close → ((outcome_of f taken).close ≡ close) × Wrote told.before (outcome_of f taken).written told.after × stands (outcome_of f taken).done × (length (outcome_of f taken).done ≤ LONGEST)
   pub still : (close : Close) → close_of stop ≡ Some close → (rest : List ℕ) → told.left_after ≡ Some rest → outcome_of f (taken ++ rest) ≡ outcome_of f taken
   pub over : stop ≡ why.Finished → IfSome told.left_after (λ rest. rest ≡ [])
-  pub failed : stop ≡ why.ReadFault → stands (outcome_of f taken).done
+  pub failed : stop ≡ why.ReadFault → stands (outcome_of f taken).done × Wrote told.before (outcome_of f taken).written told.after × IsGoingOn f taken
   pub answers : WrotePart told.before (outcome_of f taken).written told.after
 
 -- what ends a run at the end of an input of so many bytes, of which so many are held

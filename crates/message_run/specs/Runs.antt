@@ -3,6 +3,7 @@ use Rattle.std.specs.Prelude.{◌≡◌, ◌⊎◌, ℕ, List, [], ◌++◌, Opt
 use Rattle.std.specs.Option.{option_map}
 use Rattle.message_run.specs.Answering.{Answering}
 use Rattle.message_run.specs.Outcomes.{outcome_of, output_of, status_of, done_of}
+use Rattle.message_run.specs.Outcomes.{IsGoingOn}
 use Rattle.message_run.specs.Written.{Wrote, WrotePart}
 
 -- The run has closed: the input was read and answered to its end, it can't be read, or a reply ended the stream.
@@ -41,8 +42,8 @@ pub record Runs (f : Answering) (has_done has_left : List (List ℕ) → Type 0)
   pub whole : IsClosing status → (status_of f taken ≡ status) × Wrote told.before (output_of f taken) told.after × has_left (done_of f taken)
   -- and what is left of the input changes nothing
   pub still : IsClosing status → (rest : List ℕ) → told.left_after ≡ Some rest → outcome_of f (taken ++ rest) ≡ outcome_of f taken
-  -- 4: the server has done the messages of the bytes taken
-  pub failed : status ≡ 4 → has_done (done_of f taken)
+  -- 4: nothing in the bytes taken ends the stream, the server has done all their messages, and all answers to them were written
+  pub failed : status ≡ 4 → has_done (done_of f taken) × Wrote told.before (outcome_of f taken).written told.after × IsGoingOn f taken
   -- 0: nothing is left
   pub over : status ≡ 0 → IfSome told.left_after (λ rest. rest ≡ [])
   -- 4 and 6: of the last item nothing was written
@@ -65,8 +66,8 @@ pub record RunsOver (f : Answering) (has_done has_left : List (List ℕ) → Typ
   pub refused : status ≡ 7 → (status_of f input ≡ 7) × Wrote told.before (output_of f input) told.after
   -- 0, 3 and 7: the server has left, with the messages of the input up to its end
   pub server : IsClosing status → has_left (done_of f input)
-  -- 4: the server has done the messages of the bytes taken
-  pub failed : status ≡ 4 → has_done (done_of f taken)
+  -- 4: nothing in the bytes taken ends the stream, the server has done all their messages, and all answers to them were written
+  pub failed : status ≡ 4 → has_done (done_of f taken) × Wrote told.before (outcome_of f taken).written told.after × IsGoingOn f taken
   -- 4 and 6: of the last item nothing was written
   pub answers : (status ≡ 4) ⊎ (status ≡ 6) → WrotePart told.before (outcome_of f taken).written told.after
   -- always: what was written is the first of what is to be written for the bytes taken

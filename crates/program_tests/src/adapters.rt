@@ -23,6 +23,20 @@ impl Write for Broken {
     }
 }
 
+/// A writer that takes all, and can't flush.
+#[derive(Drop)]
+struct Unflushed;
+
+impl Write for Unflushed {
+    fn write(&mut self, piece: &[u8]) -> io::Result<usize> {
+        Ok(piece.len())
+    }
+
+    fn flush(&mut self) -> io::Result<()> {
+        Err(io::Error::from(io::ErrorKind::Other))
+    }
+}
+
 #[test]
 fn readers_are_sources(rt: HostRuntime) -> Result<(), Fail> {
     let mut buffer = [0u8; 4];
@@ -42,5 +56,6 @@ fn writers_are_sinks(rt: HostRuntime) -> Result<(), Fail> {
     assert_eq!(rt; three.put(b"cd"), Placed::Put(1));
     assert_eq!(rt; three.put(b"d"), Placed::Failed);
     assert_eq!(rt; Writing::new(Broken).put(b"a"), Placed::Failed);
+    assert_eq!(rt; Writing::new(Unflushed).put(b"a"), Placed::Failed);
     Ok(())
 }

@@ -22,3 +22,5 @@ mod MadeWell
 mod MadeAll
 mod Faultless
 mod InFlight
+mod Succeeds
+mod Idle

@@ -3,3 +3,4 @@ pub mod Examples
 pub mod Boards
 pub mod Handed
 pub mod InFlight
+pub mod Succeeds

@@ -12,6 +12,7 @@ ghost use Rattle.table_model.specs.Table.{in_order};
 ghost use Rattle.table_laws.specs.Boards.{BoardsTell};
 ghost use Rattle.table_laws.specs.Handed.{HandedWasReported};
 ghost use Rattle.table_laws.specs.InFlight.{InFlightIsClosed};
+ghost use Rattle.table_laws.specs.Succeeds.{FaultlessSucceeds, IdleIsDone};
 
 /// Jobs stand in the order of their numbers, and no number names two.
 pub fn jobs_ascend()
@@ -103,4 +104,14 @@ pub fn late_work()
     ensures { (table : List Entry) (work : Work) (later : List Work) → in_order table ≡ true
         → list_all (λ other. not (key_eq (work_key work) (work_key other))) later ≡ true
         → fold effect (effect table work) later ≡ effect (fold effect table later) work }
+{}
+
+/// Where no device fails, no result has a failure.
+pub fn faultless_succeeds()
+    ensures { (config : Config) → FaultlessSucceeds config }
+{}
+
+/// Where one worker serves all keys and has no next job while none is out, no job is undone.
+pub fn idle_is_done()
+    ensures { (config : Config) → IdleIsDone config }
 {}

@@ -17,8 +17,8 @@ pub use examples::{
     refusals_of_the_table, what_changes_nothing_makes_a_job,
 };
 pub use jobs::{
-    all_are_answered, boards_tell, faultless_is_same, fib_is_closed, fib_is_rib_where_programmed,
-    handed_was_reported, in_flight_is_closed, jobs_ascend, jobs_complete_once,
+    all_are_answered, boards_tell, faultless_is_same, faultless_succeeds, fib_is_closed, fib_is_rib_where_programmed,
+    handed_was_reported, idle_is_done, in_flight_is_closed, jobs_ascend, jobs_complete_once,
     jobs_in_conflict_keep_order, jobs_out_are_apart, late_work, outstanding_is_owed,
     programmed_is_there, programmed_was_reported, reports_give_fib, results_are_answered_once,
 };
