@@ -3,7 +3,7 @@ use Rattle.std.proofs.Common.{◌≡◌, ℕ, ◌+◌, ◌-◌, ◌≤◌, List,
 use Rattle.std.proofs.lemmas.List.{take_at, take-append-drop, drop-drop, length-take, take_rest}
 use Rattle.std.proofs.Math.Seq.{take-add}
 
-front : (bytes : List ℕ) (at n : ℕ) (copied tail : List ℕ) → copied ≡ take n (take (length bytes - at) (drop at bytes)) → n ≤ length (take (length bytes - at) (drop at bytes))
+pub front : (bytes : List ℕ) (at n : ℕ) (copied tail : List ℕ) → copied ≡ take n (take (length bytes - at) (drop at bytes)) → n ≤ length (take (length bytes - at) (drop at bytes))
     → take n (copied ++ tail) ≡ take n (drop at bytes)
 front bytes at n copied tail e le =
     let rest : take (length bytes - at) (drop at bytes) ≡ drop at bytes = take_rest bytes at in

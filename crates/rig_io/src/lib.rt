@@ -2,8 +2,22 @@
 //! and forms of them in memory for tests.
 #![tactic(auto)]
 
+mod acceptor;
+mod clock;
+mod dialer;
+mod gates;
+mod link;
+mod mem_acceptor;
+mod mem_link;
 mod sink;
 mod source;
 
+pub use acceptor::{Accepted, Acceptor};
+pub use clock::{Clock, StepClock};
+pub use dialer::{Dialer, Dialled};
+pub use gates::Gates;
+pub use link::{Link, LinkRead, LinkWrite};
+pub use mem_acceptor::MemAcceptor;
+pub use mem_link::{LinkStep, Mark, MemLink};
 pub use sink::{MemSink, Placed, Sink};
 pub use source::{MemSource, Source, Took};

@@ -8,6 +8,7 @@ use Rattle.std.below.std_heap.proofs.GlobalAllocator.TheSendSync as heap_laws
 use Rattle.atomic_table.proofs.shared.Shared.TheSendSync as shared_laws
 use Rattle.atomic_table.proofs.send_lease.SendLease.TheSendSync as lease_laws
 use Rattle.atomic_table.proofs.shared.Seat.TheSendSync as seat_laws
+use Rattle.table_lock.proofs.bell.Bell.TheSendSync as bell_laws
 use Rattle.std.specs.contracts.option.Option as option
 use Rattle.std.specs.contracts.snapshot.Snapshot as snapshot
 use Rattle.std.specs.contracts.alloc.Global as global
@@ -60,5 +61,5 @@ lock_sync M C R G g s = view_sync (lock_inside.the_row M C R G g) _ _ _ _
           ),
         ),
       ),
-      tt,
+      (bell_laws.the_field_sync, tt),
     )))

@@ -2,6 +2,7 @@
 //! and each pass knows a beginning of that history with all its own calls in it.
 #![tactic(auto)]
 
+mod bell;
 mod crossing;
 mod lock;
 mod machine;

@@ -2,6 +2,7 @@
 ghost use Rattle.std.specs.Prelude.{◌≡◌, ℕ, ◌+◌, ◌-◌, ◌^◌, ◌<◌, ◌≤◌, [], ◌∷◌, ◌++◌, IfOk, IfErr};
 ghost use Rattle.table_lock.specs.Passes.{IsPassOf, IsNoteOf, IsCalled, IsLearned, IsSound, IsClosed, root_view, child, item};
 
+use crate::bell::Bell;
 use crate::machine::Machine;
 use crate::plays::{SeatOf, TableOf};
 use crate::steps;
@@ -11,6 +12,7 @@ use std::alloc::{AllocError, Global};
 use std::marker::Model;
 use std::snapshot::Snapshot;
 use std::sync::Wait;
+use std::time::Duration;
 
 /// The call was not made: 2^62 tickets had been drawn, and a lock has no more.
 #[derive(Drop)]
@@ -20,6 +22,7 @@ pub struct Spent;
 #[derive(Drop)]
 pub struct TableLock<M: Machine> {
     table: TableOf<M>,
+    bell: Bell,
 }
 
 impl<M: Machine> Model for TableLock<M> {
@@ -86,7 +89,13 @@ impl<M: Machine> TableLock<M> {
             last: None,
         }));
         match Table::new(alloc, &[0, 0], slots, &about) {
-            Ok((table, seat)) => Ok((TableLock { table }, Pass { seat })),
+            Ok((table, seat)) => Ok((
+                TableLock {
+                    table,
+                    bell: Bell::new(),
+                },
+                Pass { seat },
+            )),
             Err(_) => Err(AllocError),
         }
     }
@@ -152,13 +161,28 @@ impl<M: Machine> TableLock<M> {
         steps::learn(&self.table.shared, &mut pass.seat, seat);
     }
 
+    /// How often the bell was rung.
+    pub fn rung(&self) -> u64 {
+        self.bell.rung()
+    }
+
+    /// Ends the rests of all threads, which rest for want of what the caller has just called for.
+    pub fn ring(&self) {
+        self.bell.ring();
+    }
+
+    /// Sleeps until the bell is rung or the time is up, if it was not rung since it was heard. It may also return for no reason.
+    pub fn rest<R: Wait>(&self, rt: &R, heard: u64, at_most: Duration) {
+        self.bell.rest(rt, heard, at_most);
+    }
+
     /// Takes the machine out, once each pass was joined. It stands for the closed history, which is all that the root has seen.
     pub fn close(self, pass: Pass<M>) -> M
         requires { IsPassOf self pass × (pass.number ≡ 0) × (pass.out ≡ 0) }
         ensures machine { M.stands result pass.seen × (M.setup result ≡ self.setup) }
         ensures history { IsClosed M.lawful self.setup pass }
     {
-        let TableLock { table } = self;
+        let TableLock { table, bell: _ } = self;
         let Pass { seat } = pass;
         let mut closed = table.close_with(seat);
         let held = closed.take(0);

@@ -11,6 +11,7 @@ use crate::plays::{
 use crate::view::Last;
 use std::snapshot::Snapshot;
 use std::sync::Wait;
+use std::{hint, thread};
 
 // So many tickets a lock has.
 const MOST: u64 = 1 << 62;
@@ -18,6 +19,12 @@ const MOST: u64 = 1 << 62;
 const TICKET: usize = 0;
 
 const SERVING: usize = 1;
+
+// So often a thread that finds others in the lock spins before it draws a ticket, each time twice as long, and then so
+// often it yields. A ticket that is drawn where nobody has one is served at once, so no thread has to be woken for it.
+const SPINS: u32 = 8;
+
+const YIELDS: u32 = 20;
 
 // So often a thread looks for its turn before it sleeps: a short call is over by then.
 const LOOKS: u32 = 200;
@@ -41,9 +48,16 @@ pub(crate) fn draw<M: Machine, R: Wait>(
     ensures drawn { MatchResult result (λ t. (t < 2 ^ 62) × (seat.new.me ≡ draws seat.old.me t)) (λ _. (n : ℕ) × (2 ^ 62 ≤ n) × (seat.new.me ≡ glances seat.old.me n)) }
 {
     let mut ticket = glance(table, seat);
+    let mut waits = 0;
     for _ in rt.forever() {
         if ticket >= MOST {
             return Err(Spent);
+        }
+        if waits < SPINS + YIELDS && table.peek(SERVING) != ticket {
+            pause(waits);
+            waits += 1;
+            ticket = glance(table, seat);
+            continue;
         }
         let found = table.compare_exchange::<Draw>(seat, TICKET, ticket, ticket + 1);
         if found == ticket {
@@ -52,6 +66,17 @@ pub(crate) fn draw<M: Machine, R: Wait>(
         ticket = found;
     }
     unreachable!()
+}
+
+// Lets others go on, who may be in the lock.
+fn pause(waits: u32) {
+    if waits < SPINS {
+        for _ in 0..1u32 << waits {
+            hint::spin_loop();
+        }
+    } else {
+        thread::yield_now();
+    }
 }
 
 // Waits until the pass's ticket is served. The pass then holds the machine. A thread that sleeps drew its ticket before
@@ -73,6 +98,7 @@ pub(crate) fn await_turn<M: Machine, R: Wait>(
             return;
         }
         if looks < LOOKS {
+            hint::spin_loop();
             looks += 1;
         } else {
             table.park(rt, SERVING, (served % (1 << 32)) as u32);

@@ -1,0 +1,16 @@
+use Rattle.std.proofs.Common.{◌≡◌, ◌+◌, ◌-◌, ◌≤◌}
+use Rattle.std.specs.Prelude.{All, vec_len, vec_capacity}
+use Rattle.reactor.proofs.reactor.give_turns.Given as goal
+
+abbrev pub invariant-loop-at : goal.invariant-loop-at
+invariant-loop-at g l =
+    All g.T.Turning.keeps l.live.items
+    × All (λ x. g.T.Turning.keeps x × g.T.Turning.ends x) l.over.items
+    × (vec_len l.live + vec_len l.over ≤ vec_capacity l.over)
+    × (l.at ≤ vec_len l.live)
+    × (vec_len l.live + l.round.ended ≡ vec_len l.fn.live)
+    × (vec_len l.over ≡ vec_len l.fn.over + l.round.ended)
+    × (l.round.progressed ≤ l.at)
+
+abbrev pub decreases-loop-at : goal.decreases-loop-at
+decreases-loop-at g l = vec_len l.live - l.at

@@ -1,0 +1,71 @@
+ghost use Rattle.std.specs.Prelude.{◌≡◌, ◌<◌, ◌≤◌, ◌+◌, ◌↔◌, List, ℕ, Option, false};
+
+use crate::link::Link;
+
+/// What an acceptor answers.
+#[derive(Drop)]
+pub enum Accepted<L> {
+    /// A new link.
+    New(L),
+    /// No new link is there now.
+    NotReady,
+    /// As many links were given as were asked for.
+    Closed,
+    /// Accepting failed.
+    Failed,
+}
+
+/// Gives links that others dial, and takes them back.
+pub trait Acceptor: Send {
+    type Link: Link + Drop;
+
+    ghost use Rattle.rig_io.specs.Fault.{HasCause, StaysUnless};
+    ghost use Rattle.rig_io.specs.Accept.{Gives, GivesTold, Retires, IsAllGiven, Listens};
+
+    /// How many links it gave.
+    ghost gave: { Self → ℕ };
+
+    /// How many it took back.
+    ghost took: { Self → ℕ };
+
+    /// How many links the last `listen` that answered true asked for, and how many had been given before it.
+    ghost asked: { Self → ℕ × ℕ };
+
+    /// The links given, as they were then, where it tells them.
+    ghost given: { Self → Option (List Self.Link) };
+
+    /// The links taken back, where it tells them.
+    ghost retired: { Self → Option (List Self.Link) };
+
+    /// How often it has failed.
+    ghost faults: { Self → ℕ };
+
+    /// How often no new link was there.
+    ghost idles: { Self → ℕ };
+
+    /// Opens the address for so many connections.
+    fn listen(&mut self, address: &str, connections: u64) -> bool
+        ensures asked { Listens result (gave self.old) connections (asked self.old) (asked self.new) }
+        ensures cause { HasCause (faults self.old) (faults self.new) (result ≡ false) }
+        ensures stays { StaysUnless (faults self.old) (faults self.new) (result ≡ false) }
+        ensures counts { (gave self.new ≡ gave self.old) × (took self.new ≡ took self.old) × (idles self.new ≡ idles self.old) }
+        ensures told { (given self.new ≡ given self.old) × (retired self.new ≡ retired self.old) };
+
+    /// Gives the next link, if one is there.
+    fn poll_accept(&mut self) -> Accepted<Self::Link>
+        ensures gave { Gives (gave self.old) (gave self.new) result }
+        ensures given { GivesTold (given self.old) (given self.new) result }
+        ensures closed { (result ≡ Accepted.Closed) ↔ IsAllGiven (gave self.old) ((asked self.old).1) ((asked self.old).0) }
+        ensures cause { HasCause (faults self.old) (faults self.new) (result ≡ Accepted.Failed) }
+        ensures stays { StaysUnless (faults self.old) (faults self.new) (result ≡ Accepted.Failed) }
+        ensures idle { HasCause (idles self.old) (idles self.new) (result ≡ Accepted.NotReady) }
+        ensures awake { StaysUnless (idles self.old) (idles self.new) (result ≡ Accepted.NotReady) }
+        ensures same { (asked self.new ≡ asked self.old) × (took self.new ≡ took self.old) × (retired self.new ≡ retired self.old) };
+
+    /// Takes back a link that is used no more.
+    fn retire(&mut self, link: Self::Link)
+        requires { took self.old < gave self.old }
+        ensures took { took self.new ≡ took self.old + 1 }
+        ensures retired { Retires (retired self.old) (retired self.new) link }
+        ensures same { (gave self.new ≡ gave self.old) × (given self.new ≡ given self.old) × (asked self.new ≡ asked self.old) × (faults self.new ≡ faults self.old) × (idles self.new ≡ idles self.old) };
+}

@@ -1,0 +1,50 @@
+ghost use Rattle.std.specs.Prelude.{◌≡◌, ◌<◌, ◌+◌, List, ℕ, Option};
+
+use crate::link::Link;
+
+/// What a dialer answers.
+#[derive(Drop)]
+pub enum Dialled<L> {
+    /// A new link.
+    New(L),
+    /// Dialling failed.
+    Failed,
+}
+
+/// Gives links that it dials, and takes them back.
+pub trait Dialer {
+    type Link: Link + Drop;
+
+    ghost use Rattle.rig_io.specs.Fault.{HasCause, StaysUnless};
+    ghost use Rattle.rig_io.specs.Accept.{Dials, DialsTold, Retires};
+
+    /// How many links it gave.
+    ghost gave: { Self → ℕ };
+
+    /// How many it took back.
+    ghost took: { Self → ℕ };
+
+    /// The links given, as they were then, where it tells them.
+    ghost given: { Self → Option (List Self.Link) };
+
+    /// The links taken back, where it tells them.
+    ghost retired: { Self → Option (List Self.Link) };
+
+    /// How often it has failed.
+    ghost faults: { Self → ℕ };
+
+    /// Gives a link to the address.
+    fn dial(&mut self, address: &str) -> Dialled<Self::Link>
+        ensures gave { Dials (gave self.old) (gave self.new) result }
+        ensures given { DialsTold (given self.old) (given self.new) result }
+        ensures cause { HasCause (faults self.old) (faults self.new) (result ≡ Dialled.Failed) }
+        ensures stays { StaysUnless (faults self.old) (faults self.new) (result ≡ Dialled.Failed) }
+        ensures same { (took self.new ≡ took self.old) × (retired self.new ≡ retired self.old) };
+
+    /// Takes back a link that is used no more.
+    fn retire(&mut self, link: Self::Link)
+        requires { took self.old < gave self.old }
+        ensures took { took self.new ≡ took self.old + 1 }
+        ensures retired { Retires (retired self.old) (retired self.new) link }
+        ensures same { (gave self.new ≡ gave self.old) × (given self.new ≡ given self.old) × (faults self.new ≡ faults self.old) };
+}

@@ -1,0 +1,126 @@
+ghost use Rattle.std.specs.Prelude.{◌≡◌, ◌<◌, ◌≤◌, ◌+◌, ◌++◌, List, [], ◌∷◌, ℕ, Option, Some, length, vec_len, None};
+
+use crate::acceptor::{Accepted, Acceptor};
+use crate::mem_link::MemLink;
+use std::alloc::Global;
+use std::marker::Model;
+
+/// An acceptor in memory, which gives its links in order.
+#[derive(Drop)]
+pub struct MemAcceptor {
+    coming: Vec<MemLink>,
+    retired: Vec<MemLink>,
+    asked: u64,
+    before: u64,
+    gave: u64,
+    faults: u64,
+    refused: u64,
+}
+
+impl Model for MemAcceptor {
+    ghost use Rattle.std.specs.Prelude.{◌≤◌, ◌+◌, ◌<◌, ◌^◌, vec_len, vec_capacity};
+    ghost use Rattle.rig_io.specs.MemAcceptors.{Gate};
+
+    ghost Value = { Gate };
+
+    ghost view = { λ a. record { coming = a.coming.items; retired = a.retired.items; asked = a.asked; before = a.before; gave = a.gave; faults = a.faults; refused = a.refused } };
+
+    ghost invariant = { λ a. (a.gave ≤ vec_capacity a.retired) × (vec_len a.retired ≤ a.gave) × (a.before ≤ a.gave) × (a.gave ≤ a.before + a.asked) };
+}
+
+impl MemAcceptor {
+    /// An acceptor that will give these links.
+    pub fn new(alloc: Global, links: Vec<MemLink>) -> MemAcceptor
+        ensures { result ≡ record { coming = links.items; retired = []; asked = 0; before = 0; gave = 0; faults = 0; refused = 0 } }
+    {
+        MemAcceptor {
+            coming: links,
+            retired: Vec::new(alloc),
+            asked: 0,
+            before: 0,
+            gave: 0,
+            faults: 0,
+            refused: 0,
+        }
+    }
+
+    /// The links that were taken back.
+    pub fn retired(&self) -> &[MemLink]
+        ensures { result.now ≡ self.now.retired }
+    {
+        &self.retired
+    }
+
+    /// How many calls failed for want of memory, at most 2^64 - 1.
+    pub fn refused(&self) -> u64
+        ensures { result ≡ self.now.refused }
+    {
+        self.refused
+    }
+}
+
+impl Acceptor for MemAcceptor {
+    ghost use Rattle.std.specs.Prelude.{Some, None, true, ◌↔◌, false};
+    ghost use Rattle.rig_io.specs.Fault.{HasCause, StaysUnless};
+    ghost use Rattle.rig_io.specs.Accept.{Gives, IsAllGiven, Listens};
+    ghost use Rattle.rig_io.specs.MemAcceptors.{Accepts};
+
+    type Link = MemLink;
+
+    ghost gave = { λ a. a.gave };
+
+    ghost took = { λ a. length a.retired };
+
+    ghost asked = { λ a. (a.asked, a.before) };
+
+    ghost given = { λ _. None };
+
+    ghost retired = { λ a. Some a.retired };
+
+    ghost faults = { λ a. a.faults };
+
+    ghost idles = { λ _. 0 };
+
+    fn listen(&mut self, _address: &str, connections: u64) -> bool
+        ensures answer { result ≡ true }
+        ensures same { self.new ≡ record self.old { asked = connections; before = self.old.gave } }
+    {
+        self.before = self.gave;
+        self.asked = connections;
+        true
+    }
+
+    fn poll_accept(&mut self) -> Accepted<MemLink>
+        ensures gave { Gives self.old.gave self.new.gave result }
+        ensures closed { (result ≡ Accepted.Closed) ↔ IsAllGiven self.old.gave self.old.before self.old.asked }
+        ensures cause { HasCause self.old.faults self.new.faults (result ≡ Accepted.Failed) }
+        ensures stays { StaysUnless self.old.faults self.new.faults (result ≡ Accepted.Failed) }
+        ensures exact { Accepts self.old.coming self.new.coming result self.old.refused self.new.refused }
+        ensures same { (self.new.asked ≡ self.old.asked) × (self.new.before ≡ self.old.before) × (self.new.retired ≡ self.old.retired) }
+    {
+        if self.gave - self.before == self.asked {
+            return Accepted::Closed;
+        }
+        match self.retired.reserve((self.gave as usize + 1).saturating_sub(self.retired.len())) {
+            Ok(()) => {}
+            Err(_) => {
+                self.refused = self.refused.saturating_add(1);
+                self.faults = self.faults.saturating_add(1);
+                return Accepted::Failed;
+            }
+        }
+        if self.coming.is_empty() {
+            self.faults = self.faults.saturating_add(1);
+            return Accepted::Failed;
+        }
+        self.gave += 1;
+        Accepted::New(self.coming.remove(0))
+    }
+
+    fn retire(&mut self, link: MemLink)
+        requires { length self.old.retired < self.old.gave }
+        ensures { self.new ≡ record self.old { retired = self.old.retired ++ link ∷ [] } }
+    {
+        self.retired.push_reserved(link);
+    }
+}
