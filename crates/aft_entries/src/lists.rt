@@ -4,6 +4,7 @@ ghost use Rattle.aft_entries.specs.MemberOrder.{is_in_order};
 use crate::key::Key;
 use std::alloc::AllocError;
 use std::marker::Model;
+use vec_list::VecList;
 
 /// A text, seen as its bytes.
 #[derive(Drop)]
@@ -20,18 +21,7 @@ impl Model for Name {
 }
 
 /// Labels, seen as a list.
-#[derive(Drop)]
-pub struct Labels {
-    labels: Vec<u32>,
-}
-
-impl Model for Labels {
-    ghost use Rattle.std.specs.Prelude.{List, ℕ};
-
-    ghost Value = { List ℕ };
-
-    ghost view = { λ l. l.labels.items };
-}
+pub type Labels = VecList<u32>;
 
 /// A next hop of a group, and its weight.
 #[derive(Clone, Copy, Debug, PartialEq, Eq)]
@@ -59,40 +49,7 @@ impl Model for Members {
 }
 
 /// Keys, seen as a list.
-#[derive(Drop)]
-pub struct Keys {
-    keys: Vec<Key>,
-}
-
-impl Model for Keys {
-    ghost use Rattle.std.specs.Prelude.{List};
-    ghost use Rattle.aft_entries.specs.declared.key.Key.{Key};
-
-    ghost Value = { List Key };
-
-    ghost view = { λ k. k.keys.items };
-}
-
-impl Labels {
-    pub fn from_vec(labels: Vec<u32>) -> Labels
-        ensures { result ≡ labels.items }
-    {
-        Labels { labels }
-    }
-
-    pub fn into_vec(self) -> Vec<u32>
-        ensures { result.items ≡ self }
-    {
-        let Labels { labels } = self;
-        labels
-    }
-
-    pub fn as_slice(&self) -> &[u32]
-        ensures { result.now ≡ self.now }
-    {
-        self.labels.as_slice()
-    }
-}
+pub type Keys = VecList<Key>;
 
 impl Members {
     /// The members, which stand in order of their index.
@@ -118,38 +75,6 @@ impl Members {
     }
 }
 
-impl Keys {
-    pub fn from_vec(keys: Vec<Key>) -> Keys
-        ensures { result ≡ keys.items }
-    {
-        Keys { keys }
-    }
-
-    pub fn into_vec(self) -> Vec<Key>
-        ensures { result.items ≡ self }
-    {
-        let Keys { keys } = self;
-        keys
-    }
-
-    pub fn as_slice(&self) -> &[Key]
-        ensures { result.now ≡ self.now }
-    {
-        self.keys.as_slice()
-    }
-}
-
-impl Clone for Labels {
-    ghost is_clone = { λ x y. y ≡ x };
-
-    fn clone(&self) -> Result<Labels, AllocError> {
-        let alloc = *self.labels.allocator();
-        Ok(Labels {
-            labels: Vec::from_slice(alloc, self.labels.as_slice())?,
-        })
-    }
-}
-
 impl Clone for Members {
     ghost is_clone = { λ x y. y ≡ x };
 
@@ -157,17 +82,6 @@ impl Clone for Members {
         let alloc = *self.members.allocator();
         Ok(Members {
             members: Vec::from_slice(alloc, self.members.as_slice())?,
-        })
-    }
-}
-
-impl Clone for Keys {
-    ghost is_clone = { λ x y. y ≡ x };
-
-    fn clone(&self) -> Result<Keys, AllocError> {
-        let alloc = *self.keys.allocator();
-        Ok(Keys {
-            keys: Vec::from_slice(alloc, self.keys.as_slice())?,
         })
     }
 }

@@ -5,6 +5,7 @@ use crate::entry::Entry;
 use crate::key::Key;
 use crate::lists::Name;
 use std::marker::Model;
+use vec_list::VecList;
 
 /// What an operation does.
 #[derive(Clone, Copy, Debug, PartialEq, Eq)]
@@ -69,32 +70,10 @@ pub enum Ask {
 }
 
 /// Labels as they were sent, seen as a list. A label may be absent.
-#[derive(Drop)]
-pub struct RawLabels {
-    labels: Vec<Option<u64>>,
-}
-
-impl Model for RawLabels {
-    ghost use Rattle.std.specs.Prelude.{List, ℕ, Option};
-
-    ghost Value = { List (Option ℕ) };
-
-    ghost view = { λ l. l.labels.items };
-}
+pub type RawLabels = VecList<Option<u64>>;
 
 /// Members as they were sent, seen as a list of an index and a weight, which may be absent.
-#[derive(Drop)]
-pub struct RawMembers {
-    members: Vec<(u64, Option<u64>)>,
-}
-
-impl Model for RawMembers {
-    ghost use Rattle.std.specs.Prelude.{List, ℕ, Option};
-
-    ghost Value = { List (ℕ × Option ℕ) };
-
-    ghost view = { λ m. m.members.items };
-}
+pub type RawMembers = VecList<(u64, Option<u64>)>;
 
 /// A next hop as it was sent, its texts unread.
 #[derive(Drop)]
@@ -152,79 +131,4 @@ pub struct Row {
 }
 
 /// Entries, each with whether the forwarding table has it, seen as a list.
-#[derive(Drop)]
-pub struct Rows {
-    rows: Vec<Row>,
-}
-
-impl Model for Rows {
-    ghost use Rattle.std.specs.Prelude.{List};
-    ghost use Rattle.aft_entries.specs.declared.operation.Row.{Row};
-
-    ghost Value = { List Row };
-
-    ghost view = { λ r. r.rows.items };
-}
-
-impl RawLabels {
-    pub fn from_vec(labels: Vec<Option<u64>>) -> RawLabels
-        ensures { result ≡ labels.items }
-    {
-        RawLabels { labels }
-    }
-
-    pub fn into_vec(self) -> Vec<Option<u64>>
-        ensures { result.items ≡ self }
-    {
-        let RawLabels { labels } = self;
-        labels
-    }
-
-    pub fn as_slice(&self) -> &[Option<u64>]
-        ensures { result.now ≡ self.now }
-    {
-        self.labels.as_slice()
-    }
-}
-
-impl RawMembers {
-    pub fn from_vec(members: Vec<(u64, Option<u64>)>) -> RawMembers
-        ensures { result ≡ members.items }
-    {
-        RawMembers { members }
-    }
-
-    pub fn into_vec(self) -> Vec<(u64, Option<u64>)>
-        ensures { result.items ≡ self }
-    {
-        let RawMembers { members } = self;
-        members
-    }
-
-    pub fn as_slice(&self) -> &[(u64, Option<u64>)]
-        ensures { result.now ≡ self.now }
-    {
-        self.members.as_slice()
-    }
-}
-
-impl Rows {
-    pub fn from_vec(rows: Vec<Row>) -> Rows
-        ensures { result ≡ rows.items }
-    {
-        Rows { rows }
-    }
-
-    pub fn into_vec(self) -> Vec<Row>
-        ensures { result.items ≡ self }
-    {
-        let Rows { rows } = self;
-        rows
-    }
-
-    pub fn as_slice(&self) -> &[Row]
-        ensures { result.now ≡ self.now }
-    {
-        self.rows.as_slice()
-    }
-}
+pub type Rows = VecList<Row>;

@@ -22,6 +22,7 @@ use proto_wire::{FieldReader, Next};
 use schema_numbers::{FieldName, Numbering, ValueName};
 use std::alloc::{AllocError, Global};
 use std::marker::Model;
+use vec_list::VecList;
 
 /// An entry of an answer to a Get, as it is read. The statuses are their numbers on the wire.
 #[derive(Drop)]
@@ -33,46 +34,7 @@ pub struct RawRow {
 }
 
 /// Entries of an answer to a Get, in their order. Contracts see the list.
-#[derive(Drop)]
-pub struct RawRows {
-    items: Vec<RawRow>,
-}
-
-impl Model for RawRows {
-    ghost use Rattle.std.specs.Prelude.{List};
-    ghost use Rattle.gribi_messages.specs.declared.rows.RawRow.{RawRow};
-
-    ghost Value = { List RawRow };
-
-    ghost view = { λ l. l.items.items };
-}
-
-impl RawRows {
-    /// No entry.
-    pub fn new(alloc: Global) -> RawRows
-        ensures { result ≡ [] }
-    {
-        RawRows {
-            items: Vec::new(alloc),
-        }
-    }
-
-    /// Appends an entry.
-    pub fn push(&mut self, item: RawRow) -> Result<(), AllocError>
-        ensures ok { OnOk result (self.new ≡ self.old ++ item ∷ []) }
-        ensures err { OnErr result (self.new ≡ self.old) }
-    {
-        self.items.push(item)?;
-        Ok(())
-    }
-
-    /// The entries.
-    pub fn as_slice(&self) -> &[RawRow]
-        ensures { result.now ≡ self.now }
-    {
-        self.items.as_slice()
-    }
-}
+pub type RawRows = VecList<RawRow>;
 
 /// A message of an answer to a Get.
 #[derive(Drop)]

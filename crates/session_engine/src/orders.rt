@@ -15,6 +15,7 @@ use gribi_messages::{
 use schema_numbers::{Numbering, ValueName};
 use std::alloc::{AllocError, Global};
 use std::marker::Model;
+use vec_list::VecList;
 use table_model::{AckType, AskedParams, Operation, Persistence, Redundancy};
 
 /// What requests are read with: the numbers of the messages' fields, and the names of the network instances.
@@ -25,29 +26,7 @@ pub struct Setting {
 }
 
 /// Operations, in their order. Contracts see the list.
-#[derive(Drop)]
-pub struct Operations {
-    items: Vec<Operation>,
-}
-
-impl Model for Operations {
-    ghost use Rattle.std.specs.Prelude.{List};
-    ghost use Rattle.table_model.specs.declared.command.Operation.{Operation};
-
-    ghost Value = { List Operation };
-
-    ghost view = { λ o. o.items.items };
-}
-
-impl Operations {
-    /// The operations, as a vector.
-    pub fn into_vec(self) -> Vec<Operation>
-        ensures { result.items ≡ self }
-    {
-        let Operations { items } = self;
-        items
-    }
-}
+pub type Operations = VecList<Operation>;
 
 /// What a request orders: session parameters, an election id, and operations, in this order.
 #[derive(Drop)]
@@ -134,7 +113,7 @@ fn operations_of(
     for operation in raw {
         items.push(operation_of(alloc, instances, operation)?)?;
     }
-    Ok(Operations { items })
+    Ok(Operations::from_vec(items))
 }
 
 /// What a ModifyRequest orders, or the first fault of its bytes with its place. Each operation is checked as far as it stands by
