@@ -6,7 +6,7 @@ use Rattle.std.proofs.lemmas.List.Elements.{All-head, All-tail}
 use Rattle.std.proofs.lemmas.Bool.Decides.{nat_tests}
 use Rattle.std.proofs.lemmas.Nat.{div-add-mod', div_below}
 use Rattle.std.proofs.Math.Nat.{pow-zero, pow-suc}
-use Rattle.addr_text.specs.Texts.{in_base, all_of, digit, hex_digit, number_by, at_most, is_plain, decimal, hextet, octet, parts, onto_first, quad, v4_bits, six, mac}
+use Rattle.addr_text.specs.AddressGrammar.{in_base, all_of, digit, hex_digit, number_by, at_most, is_plain, decimal, hextet, octet, parts, onto_first, quad, v4_bits, six, mac}
 use Rattle.addr_text.specs.Printed.{digit_text, decimal_text, hex_text, octet_text, digits_in, joined, v4_text, mac_text}
 use Rattle.addr_text.proofs.Grouping.{in_base-append}
 

@@ -4,7 +4,7 @@ use Rattle.std.specs.Prelude.{option_map, ◌==◌, nat_lt, nat_le, if◌then◌
 use Rattle.std.proofs.Math.Nat.{pow-zero, pow-suc, pow-succ', pow-le-pow_right, mul-le-mul_right}
 use Rattle.std.proofs.lemmas.Nat.{pow-add}
 use Rattle.std.proofs.lemmas.Bool.Decides.{nat_tests}
-use Rattle.addr_text.specs.Texts.{in_base, groups, parts, and_groups, last_groups, hextet, whole, gapped}
+use Rattle.addr_text.specs.AddressGrammar.{in_base, groups, parts, and_groups, last_groups, hextet, whole, compressed}
 use Rattle.addr_text.proofs.Scanning.{groups_cons}
 use Rattle.addr_text.specs.Counting.{counted, counted_from}
 
@@ -54,8 +54,8 @@ in_base-filled front back k all =
     ∙ regroup (in_base 65536 front) (65536 ^ k) (65536 ^ length back) (in_base 65536 back) (65536 ^ (8 - length front)) power
 
 -- the groups before `::` have their places at the front
-pub in_base-gapped : (front back : List ℕ) → length front + length back < 8 → in_base 65536 (front ++ replicate (8 - (length front + length back)) 0 ++ back) ≡ in_base 65536 front * 65536 ^ (8 - length front) + in_base 65536 back
-in_base-gapped front back few = in_base-filled front back (8 - (length front + length back)) (omega arith)
+pub in_base-compressed : (front back : List ℕ) → length front + length back < 8 → in_base 65536 (front ++ replicate (8 - (length front + length back)) 0 ++ back) ≡ in_base 65536 front * 65536 ^ (8 - length front) + in_base 65536 back
+in_base-compressed front back few = in_base-filled front back (8 - (length front + length back)) (omega arith)
 
 -- Bounds
 
@@ -115,7 +115,7 @@ whole_none (Some all) e =
     let q = none_if (nat_le (0 + length all) 8) (0 + length all, in_base 65536 all) e in
     ap (λ b. if b then Some (in_base 65536 all) else None) (not_eight (length all) q)
 
-pub gapped_some : (f b : Option (List ℕ)) (fc fb bc bb : ℕ) → Some (fc, fb) ≡ counted f → Some (bc, bb) ≡ counted b → gapped f b ≡ (if nat_lt (fc + bc) 8 then Some (fb * 65536 ^ (8 - fc) + bb) else None)
+pub gapped_some : (f b : Option (List ℕ)) (fc fb bc bb : ℕ) → Some (fc, fb) ≡ counted f → Some (bc, bb) ≡ counted b → compressed f b ≡ (if nat_lt (fc + bc) 8 then Some (fb * 65536 ^ (8 - fc) + bb) else None)
 gapped_some None b fc fb bc bb e d = cc
 gapped_some (Some front) None fc fb bc bb e d = cc
 gapped_some (Some front) (Some back) fc fb bc bb e d =
@@ -128,20 +128,20 @@ gapped_some (Some front) (Some back) fc fb bc bb e d =
     rw (a, b, c, low) (by (nat_lt (length front + length back) 8) refl)
   where
     by : (t : Bool) → nat_lt (length front + length back) 8 ≡ t → (if t then Some (in_base 65536 (front ++ replicate (8 - (length front + length back)) 0 ++ back)) else None) ≡ (if t then Some (in_base 65536 front * 65536 ^ (8 - length front) + in_base 65536 back) else None)
-    by true h = ap Some (in_base-gapped front back (few_in_all (length front) (length back) h))
+    by true h = ap Some (in_base-compressed front back (few_in_all (length front) (length back) h))
     by false h = refl
 
 too_many : (front back : List ℕ) (x : ℕ) → nat_lt (length front + length back) 8 ≡ false → (if nat_lt (length front + length back) 8 then Some x else None) ≡ None
 too_many front back x e = ap (λ b. if b then Some x else None) e
 
-pub gapped_no_front : (f b : Option (List ℕ)) → None ≡ counted f → gapped f b ≡ None
+pub gapped_no_front : (f b : Option (List ℕ)) → None ≡ counted f → compressed f b ≡ None
 gapped_no_front None b e = refl
 gapped_no_front (Some front) None e = refl
 gapped_no_front (Some front) (Some back) e =
     let q = none_if (nat_le (0 + length front) 8) (0 + length front, in_base 65536 front) e in
     too_many front back (in_base 65536 (front ++ replicate (8 - (length front + length back)) 0 ++ back)) (over_front (length front) (length back) q)
 
-pub gapped_no_back : (f b : Option (List ℕ)) → None ≡ counted b → gapped f b ≡ None
+pub gapped_no_back : (f b : Option (List ℕ)) → None ≡ counted b → compressed f b ≡ None
 gapped_no_back None b e = refl
 gapped_no_back (Some front) None e = refl
 gapped_no_back (Some front) (Some back) e =
@@ -220,8 +220,8 @@ test_few : (n : ℕ) → n < 8 → nat_lt n 8 ≡ true
 test_few n h = grind (arith, nat_tests)
 
 module _ (f b : Option (List ℕ)) (fc fb bc bb : ℕ) (front : Some (fc, fb) ≡ counted f) (back : Some (bc, bb) ≡ counted b) where
-  pub gapped_over : 8 ≤ fc + bc → gapped f b ≡ None
+  pub gapped_over : 8 ≤ fc + bc → compressed f b ≡ None
   gapped_over h = gapped_some f b fc fb bc bb front back ∙ ap (λ (t : Bool). if t then Some (fb * 65536 ^ (8 - fc) + bb) else None) (test_over (fc + bc) h)
 
-  pub gapped_few : fc + bc < 8 → gapped f b ≡ Some (fb * 65536 ^ (8 - fc) + bb)
+  pub gapped_few : fc + bc < 8 → compressed f b ≡ Some (fb * 65536 ^ (8 - fc) + bb)
   gapped_few h = gapped_some f b fc fb bc bb front back ∙ ap (λ (t : Bool). if t then Some (fb * 65536 ^ (8 - fc) + bb) else None) (test_few (fc + bc) h)

@@ -4,8 +4,8 @@ use Rattle.std.specs.Prelude.{option_map, ◌==◌, ◌&&◌, ◌||◌, nat_lt, 
 use Rattle.std.specs.List.{list_any}
 use Rattle.std.proofs.lemmas.Bool.Decides.{nat_tests}
 use Rattle.std.proofs.lemmas.Nat.{mod_below}
-use Rattle.addr_text.specs.Texts.{in_base, hextet, parts, at_gap, behind, is_dotted, two_groups, v4_bits, last_groups, and_groups, groups, side, whole, gapped, v6_cut, v6_bits, quad}
-use Rattle.addr_text.specs.Printed.{hex_text, digits_in, longest, place_of, colons, gap_text, groups_text, v6_text}
+use Rattle.addr_text.specs.AddressGrammar.{in_base, hextet, parts, at_double_colon, behind, is_dotted, two_groups, v4_bits, last_groups, and_groups, groups, side, whole, compressed, v6_split, v6_bits, quad}
+use Rattle.addr_text.specs.Printed.{hex_text, digits_in, longest, place_of, colons, compressed_text, groups_text, v6_text}
 use Rattle.addr_text.proofs.Scanning.{append-nil, behind_all, gap_start}
 use Rattle.addr_text.proofs.Grouping.{length-zeros}
 use Rattle.addr_text.proofs.Longest.{split_run}
@@ -34,13 +34,13 @@ colons_open : (g : ℕ) (gs : List ℕ) → Opens (colons (g ∷ gs))
 colons_open g [] = hex_opens g
 colons_open g (h ∷ gs) = opens_append (hex_text g) (58 ∷ colons (h ∷ gs)) (hex_opens g)
 
-gap_later : (c : ℕ) (text : List ℕ) → (c == 58) ≡ false → at_gap (c ∷ text) ≡ behind c (at_gap text)
+gap_later : (c : ℕ) (text : List ℕ) → (c == 58) ≡ false → at_double_colon (c ∷ text) ≡ behind c (at_double_colon text)
 gap_later c [] other = refl
-gap_later c (d ∷ text) other = ap (λ b. if b && d == 58 then Some ([], text) else behind c (at_gap (d ∷ text))) other
+gap_later c (d ∷ text) other = ap (λ b. if b && d == 58 then Some ([], text) else behind c (at_double_colon (d ∷ text))) other
 
-gap_led : (text : List ℕ) → Opens text → at_gap (58 ∷ text) ≡ behind 58 (at_gap text)
+gap_led : (text : List ℕ) → Opens text → at_double_colon (58 ∷ text) ≡ behind 58 (at_double_colon text)
 gap_led [] h = absurd h
-gap_led (d ∷ text) h = ap (λ b. if b then Some ([], text) else behind 58 (at_gap (d ∷ text))) h
+gap_led (d ∷ text) h = ap (λ b. if b then Some ([], text) else behind 58 (at_double_colon (d ∷ text))) h
 
 behind_front : (c : ℕ) (front : List ℕ) (o : Option (List ℕ × List ℕ)) → behind c (behind_all front o) ≡ behind_all (c ∷ front) o
 behind_front c front None = refl
@@ -50,23 +50,23 @@ behind_both : (one other : List ℕ) (o : Option (List ℕ × List ℕ)) → beh
 behind_both one other None = refl
 behind_both one other (Some halves) = ap (λ front. Some (front, halves.1)) (sym (append_assoc one other halves.0))
 
-gap_behind : (front text : List ℕ) → Lacks 58 front → at_gap (front ++ text) ≡ behind_all front (at_gap text)
-gap_behind [] text h = gap_start (at_gap text)
+gap_behind : (front text : List ℕ) → Lacks 58 front → at_double_colon (front ++ text) ≡ behind_all front (at_double_colon text)
+gap_behind [] text h = gap_start (at_double_colon text)
 gap_behind (c ∷ front) text h =
-    gap_later c (front ++ text) h.0 ∙ ap (behind c) (gap_behind front text h.1) ∙ behind_front c front (at_gap text)
+    gap_later c (front ++ text) h.0 ∙ ap (behind c) (gap_behind front text h.1) ∙ behind_front c front (at_double_colon text)
 
 hex_free : (n : ℕ) → Lacks 58 (hex_text n)
 hex_free n = hex_lacks 58 colon_is_mark n
 
-gap_colons : (gs more : List ℕ) → at_gap (colons gs ++ more) ≡ behind_all (colons gs) (at_gap more)
-gap_colons [] more = gap_start (at_gap more)
+gap_colons : (gs more : List ℕ) → at_double_colon (colons gs ++ more) ≡ behind_all (colons gs) (at_double_colon more)
+gap_colons [] more = gap_start (at_double_colon more)
 gap_colons (g ∷ []) more = gap_behind (hex_text g) more (hex_free g)
 gap_colons (g ∷ h ∷ gs) more =
     let others = colons (h ∷ gs) in
-    ap at_gap (append_assoc (hex_text g) (58 ∷ others) more)
+    ap at_double_colon (append_assoc (hex_text g) (58 ∷ others) more)
     ∙ gap_behind (hex_text g) (58 ∷ (others ++ more)) (hex_free g)
-    ∙ ap (behind_all (hex_text g)) (gap_led (others ++ more) (opens_append others more (colons_open h gs)) ∙ ap (behind 58) (gap_colons (h ∷ gs) more) ∙ behind_front 58 others (at_gap more))
-    ∙ behind_both (hex_text g) (58 ∷ others) (at_gap more)
+    ∙ ap (behind_all (hex_text g)) (gap_led (others ++ more) (opens_append others more (colons_open h gs)) ∙ ap (behind 58) (gap_colons (h ∷ gs) more) ∙ behind_front 58 others (at_double_colon more))
+    ∙ behind_both (hex_text g) (58 ∷ others) (at_double_colon more)
 
 -- One side
 
@@ -99,14 +99,14 @@ side_again tail (g ∷ gs) small =
 
 -- Eight groups, with and without `::`
 
-no_gap : (gs : List ℕ) → at_gap (colons gs) ≡ None
-no_gap gs = ap at_gap (sym (append-nil (colons gs))) ∙ gap_colons gs []
+no_gap : (gs : List ℕ) → at_double_colon (colons gs) ≡ None
+no_gap gs = ap at_double_colon (sym (append-nil (colons gs))) ∙ gap_colons gs []
 
 whole_again : (gs : List ℕ) → AllBelow 65536 gs → length gs ≡ 8 → v6_bits (colons gs) ≡ Some (in_base 65536 gs)
 unfolding v6_bits
 whole_again [] small all = absurd (omega arith)
 whole_again (g ∷ gs) small all =
-    ap (v6_cut (colons (g ∷ gs))) (no_gap (g ∷ gs))
+    ap (v6_split (colons (g ∷ gs))) (no_gap (g ∷ gs))
     ∙ ap (λ ps. whole (groups true ps)) (parts_joined 58 hex_text hex_free g gs)
     ∙ ap whole (groups_again true g gs small)
     ∙ ap (λ n. if n == 8 then Some (in_base 65536 (g ∷ gs)) else None) all
@@ -120,9 +120,9 @@ gap_again front back run fs bs some all =
     let text = colons front ++ 58 ∷ 58 ∷ colons back in
     let few : length front + length back < 8 = omega arith in
     let lack : 8 - (length front + length back) ≡ run = omega arith in
-    ap (v6_cut text) (gap_colons front (58 ∷ 58 ∷ colons back) ∙ ap (λ f. Some (f, colons back)) (append-nil (colons front)))
-    ∙ ap (λ o. gapped o (side true (colons back))) (side_again false front fs)
-    ∙ ap (gapped (Some front)) (side_again true back bs)
+    ap (v6_split text) (gap_colons front (58 ∷ 58 ∷ colons back) ∙ ap (λ f. Some (f, colons back)) (append-nil (colons front)))
+    ∙ ap (λ o. compressed o (side true (colons back))) (side_again false front fs)
+    ∙ ap (compressed (Some front)) (side_again true back bs)
     ∙ ap (λ b. if b then Some (in_base 65536 (front ++ replicate (8 - (length front + length back)) 0 ++ back)) else None) (fewer (length front + length back) few)
     ∙ ap (λ n. Some (in_base 65536 (front ++ replicate n 0 ++ back))) lack
 
@@ -139,7 +139,7 @@ below_drop base (suc n) (x ∷ xs) h = below_drop base n xs h.1
 at_least : (n : ℕ) → nat_lt n 2 ≡ false → 0 < n
 at_least n h = grind (arith, nat_tests)
 
-run_again : (gs : List ℕ) (place run : ℕ) → AllBelow 65536 gs → 0 < run → length gs ≡ 8 → gs ≡ take place gs ++ replicate run 0 ++ drop (place + run) gs → v6_bits (gap_text place run gs) ≡ Some (in_base 65536 gs)
+run_again : (gs : List ℕ) (place run : ℕ) → AllBelow 65536 gs → 0 < run → length gs ≡ 8 → gs ≡ take place gs ++ replicate run 0 ++ drop (place + run) gs → v6_bits (compressed_text place run gs) ≡ Some (in_base 65536 gs)
 run_again gs place run small some all e =
     let front = take place gs in
     let back = drop (place + run) gs in
@@ -151,7 +151,7 @@ pub text_again : (gs : List ℕ) → AllBelow 65536 gs → length gs ≡ 8 → v
 unfolding groups_text
 text_again gs small all = by (nat_lt (longest gs) 2) refl
   where
-    by : (b : Bool) → nat_lt (longest gs) 2 ≡ b → v6_bits (if b then colons gs else gap_text (place_of (longest gs) gs) (longest gs) gs) ≡ Some (in_base 65536 gs)
+    by : (b : Bool) → nat_lt (longest gs) 2 ≡ b → v6_bits (if b then colons gs else compressed_text (place_of (longest gs) gs) (longest gs) gs) ≡ Some (in_base 65536 gs)
     by true h = whole_again gs small all
     by false h =
         let some = at_least (longest gs) h in
@@ -182,7 +182,7 @@ v6_lacks c other m bits =
     let place = place_of (longest gs) gs in
     let front = take place gs in
     let back = drop (place + longest gs) gs in
-    lacks_if c (nat_lt (longest gs) 2) (colons gs) (gap_text place (longest gs) gs) (colons_lack c other m gs)
+    lacks_if c (nat_lt (longest gs) 2) (colons gs) (compressed_text place (longest gs) gs) (colons_lack c other m gs)
     (lacks_append c (colons front) (58 ∷ 58 ∷ colons back) (colons_lack c other m front) (other, (other, colons_lack c other m back)))
 
 pub v6_is_no_v4 : (bits : ℕ) → v4_bits (v6_text bits) ≡ None

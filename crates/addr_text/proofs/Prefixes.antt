@@ -6,14 +6,14 @@ use Rattle.addr_text.specs.declared.Address.TheVariants.{V4, V6}
 use Rattle.addr_text.specs.declared.Prefix4.{Prefix4}
 use Rattle.addr_text.specs.declared.Prefix6.{Prefix6}
 use Rattle.addr_text.specs.declared.TextFault.TheVariants.{HostBits}
-use Rattle.addr_text.specs.Texts.{decimal, parts, slashed, and_length, v4_bits, v6_bits, as_v4, as_v6, as_address, v4_prefix, v6_prefix, address}
+use Rattle.addr_text.specs.AddressGrammar.{decimal, parts, address_and_length, and_length, v4_bits, v6_bits, as_v4, as_v6, as_address, v4_prefix, v6_prefix, address}
 use Rattle.addr_text.specs.Printed.{decimal_text, digits_in, v4_text, v6_text, v4_prefix_text, v6_prefix_text, address_text}
 use Rattle.addr_text.proofs.Again.{Lacks, slash_is_mark, decimal_lacks, decimal_again, joined_lacks, parts_one, parts_two, v4_again}
 use Rattle.addr_text.proofs.GroupsAgain.{v6_again, v6_lacks, v6_is_no_v4}
 
-slashed_again : (read : List ℕ → Option ℕ) (most : ℕ) (text : List ℕ) (bits len : ℕ) → Lacks 47 text → read text ≡ Some bits → len ≤ most → most < 1000 → slashed read most (parts 47 (text ++ 47 ∷ decimal_text len)) ≡ Some (bits, len)
+slashed_again : (read : List ℕ → Option ℕ) (most : ℕ) (text : List ℕ) (bits len : ℕ) → Lacks 47 text → read text ≡ Some bits → len ≤ most → most < 1000 → address_and_length read most (parts 47 (text ++ 47 ∷ decimal_text len)) ≡ Some (bits, len)
 slashed_again read most text bits len lacks again within few =
-    ap (slashed read most) (parts_two 47 text (decimal_text len) lacks ∙ ap (λ ps. text ∷ ps) (parts_one 47 (decimal_text len) (decimal_lacks 47 slash_is_mark len)))
+    ap (address_and_length read most) (parts_two 47 text (decimal_text len) lacks ∙ ap (λ ps. text ∷ ps) (parts_one 47 (decimal_text len) (decimal_lacks 47 slash_is_mark len)))
     ∙ ap (λ o. and_length o (decimal most (decimal_text len))) again
     ∙ ap (and_length (Some bits)) (decimal_again most len (omega arith) within)
 

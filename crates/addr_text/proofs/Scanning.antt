@@ -3,7 +3,7 @@ use Rattle.std.proofs.Common.{◌≡◌, ℕ, suc, zero, ◌+◌, ◌*◌, ◌^�
 use Rattle.std.proofs.Math.Nat.{pow-le-pow_right}
 use Rattle.std.proofs.lemmas.List.{take_more, drop_all}
 use Rattle.std.specs.Prelude.{option_map, option_and_then, ◌==◌, ◌&&◌, if◌then◌else◌}
-use Rattle.addr_text.specs.Texts.{in_base, all_of, parts, onto_first, at_gap, behind, quad, six, slashed, groups, and_groups, hextet}
+use Rattle.addr_text.specs.AddressGrammar.{in_base, all_of, parts, onto_first, at_double_colon, behind, quad, six, address_and_length, groups, and_groups, hextet}
 
 pub append-nil : {X : Type 0} (xs : List X) → xs ++ [] ≡ xs
 append-nil [] = refl
@@ -60,11 +60,11 @@ pub gap_start : (o : Option (List ℕ × List ℕ)) → o ≡ behind_all [] o
 gap_start None = refl
 gap_start (Some halves) = refl
 
-pub gap_more : (front : List ℕ) (c d : ℕ) (text : List ℕ) → (c == 58 && d == 58) ≡ false → behind_all front (at_gap (c ∷ d ∷ text)) ≡ behind_all (front ++ c ∷ []) (at_gap (d ∷ text))
-gap_more front c d text other = ap (λ b. behind_all front (if b then Some ([], text) else behind c (at_gap (d ∷ text)))) other ∙ behind-push front c (at_gap (d ∷ text))
+pub gap_more : (front : List ℕ) (c d : ℕ) (text : List ℕ) → (c == 58 && d == 58) ≡ false → behind_all front (at_double_colon (c ∷ d ∷ text)) ≡ behind_all (front ++ c ∷ []) (at_double_colon (d ∷ text))
+gap_more front c d text other = ap (λ b. behind_all front (if b then Some ([], text) else behind c (at_double_colon (d ∷ text)))) other ∙ behind-push front c (at_double_colon (d ∷ text))
 
-pub gap_found : (front : List ℕ) (c d : ℕ) (text : List ℕ) → (c == 58 && d == 58) ≡ true → behind_all front (at_gap (c ∷ d ∷ text)) ≡ Some (front, text)
-gap_found front c d text same = ap (λ b. behind_all front (if b then Some ([], text) else behind c (at_gap (d ∷ text)))) same ∙ ap (λ f. Some (f, text)) (append-nil front)
+pub gap_found : (front : List ℕ) (c d : ℕ) (text : List ℕ) → (c == 58 && d == 58) ≡ true → behind_all front (at_double_colon (c ∷ d ∷ text)) ≡ Some (front, text)
+gap_found front c d text same = ap (λ b. behind_all front (if b then Some ([], text) else behind c (at_double_colon (d ∷ text)))) same ∙ ap (λ f. Some (f, text)) (append-nil front)
 
 -- Numbers
 
@@ -107,17 +107,17 @@ below_256 number place h few = let p : 16 ^ place ≤ 16 ^ 2 = pow-le-pow_right 
 pub below_65536 : (number place : ℕ) → number < 16 ^ place → place ≤ 4 → number < 65536
 below_65536 number place h few = let p : 16 ^ place ≤ 16 ^ 4 = pow-le-pow_right {n = 16} (omega arith) few in omega (arith, p)
 
-pub gap_step : (text : List ℕ) (i : ℕ) → i + 1 < length text → (get_or text i 0 == 58 && get_or text (i + 1) 0 == 58) ≡ false → behind_all (take i text) (at_gap (drop i text)) ≡ behind_all (take (i + 1) text) (at_gap (drop (i + 1) text))
+pub gap_step : (text : List ℕ) (i : ℕ) → i + 1 < length text → (get_or text i 0 == 58 && get_or text (i + 1) 0 == 58) ≡ false → behind_all (take i text) (at_double_colon (drop i text)) ≡ behind_all (take (i + 1) text) (at_double_colon (drop (i + 1) text))
 gap_step text i h other =
     let first : drop i text ≡ get_or text i 0 ∷ drop (i + 1) text = rw add-one (drop-cons text i 0 (omega arith)) in
     let second : drop (i + 1) text ≡ get_or text (i + 1) 0 ∷ drop (suc (i + 1)) text = drop-cons text (i + 1) 0 h in
     let front : take (i + 1) text ≡ take i text ++ get_or text i 0 ∷ [] = take_more text i 0 (omega arith) in
-    ap (λ t. behind_all (take i text) (at_gap t)) (first ∙ ap (λ t. get_or text i 0 ∷ t) second)
+    ap (λ t. behind_all (take i text) (at_double_colon t)) (first ∙ ap (λ t. get_or text i 0 ∷ t) second)
     ∙ gap_more (take i text) (get_or text i 0) (get_or text (i + 1) 0) (drop (suc (i + 1)) text) other
-    ∙ ap (λ f. behind_all f (at_gap (get_or text (i + 1) 0 ∷ drop (suc (i + 1)) text))) (sym front)
-    ∙ ap (λ t. behind_all (take (i + 1) text) (at_gap t)) (sym second)
+    ∙ ap (λ f. behind_all f (at_double_colon (get_or text (i + 1) 0 ∷ drop (suc (i + 1)) text))) (sym front)
+    ∙ ap (λ t. behind_all (take (i + 1) text) (at_double_colon t)) (sym second)
 
-pub gap_end : (text : List ℕ) (i : ℕ) → length text ≤ i + 1 → at_gap (drop i text) ≡ None
+pub gap_end : (text : List ℕ) (i : ℕ) → length text ≤ i + 1 → at_double_colon (drop i text) ≡ None
 gap_end [] zero h = refl
 gap_end [] (suc i) h = refl
 gap_end (c ∷ []) zero h = refl
@@ -129,8 +129,8 @@ gap_end (c ∷ text) (suc i) h = gap_end text i (omega arith)
 pub quad_more : (a b c d : List ℕ) (separator : ℕ) (text : List ℕ) → quad (a ∷ b ∷ c ∷ d ∷ parts separator text) ≡ None
 quad_more a b c d separator text = let p = parts_is separator text in ap (λ others. quad (a ∷ b ∷ c ∷ d ∷ others)) p.2
 
-pub slashed_more : (address : List ℕ → Option ℕ) (most : ℕ) (a b : List ℕ) (separator : ℕ) (text : List ℕ) → slashed address most (a ∷ b ∷ parts separator text) ≡ None
-slashed_more address most a b separator text = let p = parts_is separator text in ap (λ others. slashed address most (a ∷ b ∷ others)) p.2
+pub slashed_more : (address : List ℕ → Option ℕ) (most : ℕ) (a b : List ℕ) (separator : ℕ) (text : List ℕ) → address_and_length address most (a ∷ b ∷ parts separator text) ≡ None
+slashed_more address most a b separator text = let p = parts_is separator text in ap (λ others. address_and_length address most (a ∷ b ∷ others)) p.2
 
 pub groups_cons : (tail : Bool) (part : List ℕ) (separator : ℕ) (text : List ℕ) → groups tail (part ∷ parts separator text) ≡ and_groups (hextet part) (groups tail (parts separator text))
 groups_cons tail part separator text =

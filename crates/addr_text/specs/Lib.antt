@@ -1,3 +1,3 @@
 pub mod Counting
 pub mod Printed
-pub mod Texts
+pub mod AddressGrammar

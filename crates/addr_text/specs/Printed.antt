@@ -67,14 +67,14 @@ abbrev pub colons : List ℕ → List ℕ
 colons groups = joined 58 (map hex_text groups)
 
 -- the run at the place is written as `::`
-abbrev pub gap_text : ℕ → ℕ → List ℕ → List ℕ
-gap_text place run groups = colons (take place groups) ++ 58 ∷ 58 ∷ colons (drop (place + run) groups)
+abbrev pub compressed_text : ℕ → ℕ → List ℕ → List ℕ
+compressed_text place run groups = colons (take place groups) ++ 58 ∷ 58 ∷ colons (drop (place + run) groups)
 
 -- a single zero group is no run
 unfoldable pub groups_text : List ℕ → List ℕ
 groups_text groups =
     if nat_lt (longest groups) 2 then colons groups
-    else gap_text (place_of (longest groups) groups) (longest groups) groups
+    else compressed_text (place_of (longest groups) groups) (longest groups) groups
 
 unfoldable pub v6_text : ℕ → List ℕ
 v6_text bits = groups_text (digits_in 65536 8 bits)

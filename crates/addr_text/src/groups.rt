@@ -1,19 +1,19 @@
 ghost use Rattle.std.specs.Prelude.{◌≡◌, ◌≤◌, ◌<◌, ◌+◌, ◌-◌, ◌*◌, ◌^◌, ◌==◌, if◌then◌else◌, nat_lt, [], ◌∷◌, option_map, IfSome, Some, None, true, false};
-ghost use Rattle.addr_text.specs.Texts as spec;
+ghost use Rattle.addr_text.specs.AddressGrammar as spec;
 ghost use Rattle.addr_text.specs.Counting.{counted, counted_from, IsSmall};
 
 use crate::number::{decimal, hextet};
-use crate::scan::{cut, gap, is_dotted};
+use crate::scan::{is_dotted, split_double_colon, split_once};
 
 // The number of an IPv4 text.
-#[tactic(auto, using(crate::proofs::Scanning::quad_more), unfolding(crate::specs::Texts::v4_bits))]
+#[tactic(auto, using(crate::proofs::Scanning::quad_more), unfolding(crate::specs::AddressGrammar::v4_bits))]
 pub fn v4_bits(text: &[u8]) -> Option<u32>
     ensures { result ≡ spec.v4_bits text.now }
 {
-    let (a, rest) = cut(text, b'.')?;
-    let (b, rest) = cut(rest, b'.')?;
-    let (c, d) = cut(rest, b'.')?;
-    match cut(d, b'.') {
+    let (a, rest) = split_once(text, b'.')?;
+    let (b, rest) = split_once(rest, b'.')?;
+    let (c, d) = split_once(rest, b'.')?;
+    match split_once(d, b'.') {
         Some(_) => None,
         None => quad(a, b, c, d),
     }
@@ -38,7 +38,7 @@ fn read_groups(text: &[u8], tail: bool) -> Option<(u32, u128)>
     let mut count = 0;
     let mut bits = 0;
     let mut rest = text;
-    'groups: while let Some((part, more)) = cut(rest, b':') {
+    'groups: while let Some((part, more)) = split_once(rest, b':') {
         match with_group(count, bits, part) {
             None => return None,
             Some((new_count, new_bits)) => {
@@ -99,13 +99,13 @@ fn side(text: &[u8], tail: bool) -> Option<(u32, u128)>
 }
 
 // The number of an IPv6 text.
-#[tactic(auto, unfolding(crate::specs::Texts::v6_bits))]
+#[tactic(auto, unfolding(crate::specs::AddressGrammar::v6_bits))]
 pub fn v6_bits(text: &[u8]) -> Option<u128>
     ensures { result ≡ spec.v6_bits text.now }
 {
-    match gap(text) {
+    match split_double_colon(text) {
         None => whole(text),
-        Some((front, back)) => gapped(front, back),
+        Some((front, back)) => compressed(front, back),
     }
 }
 
@@ -118,19 +118,19 @@ fn whole(text: &[u8]) -> Option<u128>
 }
 
 #[tactic(auto, using(crate::proofs::Grouping::gapped_some, crate::proofs::Grouping::gapped_no_front, crate::proofs::Grouping::gapped_no_back, crate::proofs::Grouping::sum_fits))]
-fn gapped(front: &[u8], back: &[u8]) -> Option<u128>
-    ensures { result ≡ spec.gapped (spec.side false front.now) (spec.side true back.now) }
+fn compressed(front: &[u8], back: &[u8]) -> Option<u128>
+    ensures { result ≡ spec.compressed (spec.side false front.now) (spec.side true back.now) }
 {
     let (count, bits) = side(front, false)?;
     let (others, low) = side(back, true)?;
     if count + others >= 8 {
         return None;
     }
-    Some(raised(count, bits) + low)
+    Some(times_zero_groups(count, bits) + low)
 }
 
 // The number of the groups in front of zero groups, eight in all.
-fn raised(count: u32, bits: u128) -> u128
+fn times_zero_groups(count: u32, bits: u128) -> u128
     requires { IsSmall (count, bits) }
     ensures { result ≡ bits * 65536 ^ (8 - count) }
 {

@@ -3,7 +3,7 @@
 ghost use Rattle.std.specs.Prelude.{◌≡◌, ◌<◌, ◌≤◌, ◌-◌, ◌%◌, ◌^◌, ℕ, List, length, Some, Ok};
 ghost use Rattle.std.specs.List.{All};
 ghost use Rattle.addr_text.specs.Printed as printed;
-ghost use Rattle.addr_text.specs.Texts as texts;
+ghost use Rattle.addr_text.specs.AddressGrammar as texts;
 ghost use Rattle.addr_text.specs.declared.Address.TheVariants.{V4, V6};
 ghost use Rattle.addr_text.specs.declared.Prefix4.{Prefix4};
 ghost use Rattle.addr_text.specs.declared.Prefix6.{Prefix6};

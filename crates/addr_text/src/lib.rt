@@ -10,11 +10,11 @@ mod runs;
 mod scan;
 
 ghost use Rattle.std.specs.Prelude.{◌≡◌, ◌≤◌, ◌-◌, ◌%◌, ◌^◌, ◌==◌, IfSome};
-ghost use Rattle.addr_text.specs.Texts as spec;
+ghost use Rattle.addr_text.specs.AddressGrammar as spec;
 
 use crate::groups::{v4_bits, v6_bits};
 use crate::number::decimal;
-use crate::scan::cut;
+use crate::scan::split_once;
 pub use laws::{
     addresses_are_read_again, mac_texts_are_read_again, v4_prefixes_are_read_again,
     v6_prefixes_are_read_again,
@@ -53,7 +53,7 @@ pub enum TextFault {
 }
 
 /// Reads an IPv4 address, `/` and a length of 0 to 32.
-#[tactic(auto, unfolding(crate::specs::Texts::v4_prefix))]
+#[tactic(auto, unfolding(crate::specs::AddressGrammar::v4_prefix))]
 pub fn read_v4_prefix(text: &str) -> Result<Prefix4, TextFault>
     ensures { result ≡ spec.v4_prefix text.now }
 {
@@ -71,7 +71,7 @@ pub fn read_v4_prefix(text: &str) -> Result<Prefix4, TextFault>
 }
 
 /// Reads an IPv6 address, `/` and a length of 0 to 128.
-#[tactic(auto, unfolding(crate::specs::Texts::v6_prefix))]
+#[tactic(auto, unfolding(crate::specs::AddressGrammar::v6_prefix))]
 pub fn read_v6_prefix(text: &str) -> Result<Prefix6, TextFault>
     ensures { result ≡ spec.v6_prefix text.now }
 {
@@ -89,7 +89,7 @@ pub fn read_v6_prefix(text: &str) -> Result<Prefix6, TextFault>
 }
 
 /// Reads an IPv4 or IPv6 address. Its only fault is `BadText`.
-#[tactic(auto, unfolding(crate::specs::Texts::address))]
+#[tactic(auto, unfolding(crate::specs::AddressGrammar::address))]
 pub fn read_addr(text: &str) -> Result<Address, TextFault>
     ensures { result ≡ spec.address text.now }
 {
@@ -105,11 +105,11 @@ pub fn read_addr(text: &str) -> Result<Address, TextFault>
 
 #[tactic(auto, using(crate::proofs::Scanning::slashed_more))]
 fn v4_slashed(text: &[u8]) -> Option<(u32, u32)>
-    ensures value { result ≡ spec.slashed spec.v4_bits 32 (spec.parts 47 text.now) }
+    ensures value { result ≡ spec.address_and_length spec.v4_bits 32 (spec.parts 47 text.now) }
     ensures len { IfSome result (λ p. p.1 ≤ 32) }
 {
-    let (front, rest) = cut(text, b'/')?;
-    if let Some(_) = cut(rest, b'/') {
+    let (front, rest) = split_once(text, b'/')?;
+    if let Some(_) = split_once(rest, b'/') {
         return None;
     }
     let bits = v4_bits(front)?;
@@ -119,11 +119,11 @@ fn v4_slashed(text: &[u8]) -> Option<(u32, u32)>
 
 #[tactic(auto, using(crate::proofs::Scanning::slashed_more))]
 fn v6_slashed(text: &[u8]) -> Option<(u128, u32)>
-    ensures value { result ≡ spec.slashed spec.v6_bits 128 (spec.parts 47 text.now) }
+    ensures value { result ≡ spec.address_and_length spec.v6_bits 128 (spec.parts 47 text.now) }
     ensures len { IfSome result (λ p. p.1 ≤ 128) }
 {
-    let (front, rest) = cut(text, b'/')?;
-    if let Some(_) = cut(rest, b'/') {
+    let (front, rest) = split_once(text, b'/')?;
+    if let Some(_) = split_once(rest, b'/') {
         return None;
     }
     let bits = v6_bits(front)?;

@@ -1,8 +1,8 @@
 ghost use Rattle.std.specs.Prelude.{◌≡◌, [], ◌∷◌};
-ghost use Rattle.addr_text.specs.Texts as spec;
+ghost use Rattle.addr_text.specs.AddressGrammar as spec;
 
 use crate::number::octet;
-use crate::scan::cut;
+use crate::scan::split_once;
 
 /// Reads a MAC text: six groups of two hexadecimal digits, joined by colons.
 pub fn read_mac(text: &str) -> Option<[u8; 6]>
@@ -11,16 +11,16 @@ pub fn read_mac(text: &str) -> Option<[u8; 6]>
     mac(text.as_bytes())
 }
 
-#[tactic(auto, using(crate::proofs::Scanning::six_more), unfolding(crate::specs::Texts::mac))]
+#[tactic(auto, using(crate::proofs::Scanning::six_more), unfolding(crate::specs::AddressGrammar::mac))]
 fn mac(text: &[u8]) -> Option<[u8; 6]>
     ensures { result ≡ spec.mac text.now }
 {
-    let (a, rest) = cut(text, b':')?;
-    let (b, rest) = cut(rest, b':')?;
-    let (c, rest) = cut(rest, b':')?;
-    let (d, rest) = cut(rest, b':')?;
-    let (e, f) = cut(rest, b':')?;
-    match cut(f, b':') {
+    let (a, rest) = split_once(text, b':')?;
+    let (b, rest) = split_once(rest, b':')?;
+    let (c, rest) = split_once(rest, b':')?;
+    let (d, rest) = split_once(rest, b':')?;
+    let (e, f) = split_once(rest, b':')?;
+    match split_once(f, b':') {
         Some(_) => None,
         None => six(a, b, c, d, e, f),
     }

@@ -1,5 +1,5 @@
 ghost use Rattle.std.specs.Prelude.{◌≡◌, ◌≤◌, ◌<◌, IfSome, IsTrue, length};
-ghost use Rattle.addr_text.specs.Texts as spec;
+ghost use Rattle.addr_text.specs.AddressGrammar as spec;
 
 fn digit(c: u8) -> Option<u32>
     ensures value { result ≡ spec.digit c }
@@ -54,7 +54,7 @@ fn hex_digits(text: &[u8]) -> Option<u32>
 }
 
 // A decimal number that is at most so large.
-#[tactic(auto, unfolding(crate::specs::Texts::decimal))]
+#[tactic(auto, unfolding(crate::specs::AddressGrammar::decimal))]
 pub fn decimal(text: &[u8], most: u32) -> Option<u32>
     ensures value { result ≡ spec.decimal most text.now }
     ensures within { IfSome result (λ number. number ≤ most) }
@@ -79,7 +79,7 @@ fn is_plain(text: &[u8]) -> bool
 }
 
 // A group of one to four hexadecimal digits.
-#[tactic(auto, unfolding(crate::specs::Texts::hextet))]
+#[tactic(auto, unfolding(crate::specs::AddressGrammar::hextet))]
 pub fn hextet(text: &[u8]) -> Option<u32>
     ensures value { result ≡ spec.hextet text.now }
     ensures small { IfSome result (λ group. group < 65536) }

@@ -8,14 +8,14 @@ use crate::{Address, Prefix4, Prefix6};
 use std::alloc::AllocError;
 
 // Eight groups of four digits with a separator each, `/` and three digits.
-const ROOM: usize = 44;
+const MAX_TEXT_LEN: usize = 44;
 
 /// Appends the address in decimal, `/` and the length: `198.51.100.0/24`. Without memory for it `out` stays as it was.
 pub fn print_v4_prefix(p: Prefix4, out: &mut String) -> Result<(), AllocError>
     ensures ok { OnOk result (string_bytes out.new ≡ string_bytes out.old ++ spec.v4_prefix_text p) }
     ensures err { OnErr result (string_bytes out.new ≡ string_bytes out.old) }
 {
-    out.reserve(ROOM)?;
+    out.reserve(MAX_TEXT_LEN)?;
     put_v4(p.bits, out);
     put(b'/', out);
     put_decimal(p.len, out);
@@ -28,7 +28,7 @@ pub fn print_v6_prefix(p: Prefix6, out: &mut String) -> Result<(), AllocError>
     ensures ok { OnOk result (string_bytes out.new ≡ string_bytes out.old ++ spec.v6_prefix_text p) }
     ensures err { OnErr result (string_bytes out.new ≡ string_bytes out.old) }
 {
-    out.reserve(ROOM)?;
+    out.reserve(MAX_TEXT_LEN)?;
     put_v6(p.bits, out);
     put(b'/', out);
     put_decimal(p.len, out);
@@ -41,7 +41,7 @@ pub fn print_addr(a: Address, out: &mut String) -> Result<(), AllocError>
     ensures ok { OnOk result (string_bytes out.new ≡ string_bytes out.old ++ spec.address_text a) }
     ensures err { OnErr result (string_bytes out.new ≡ string_bytes out.old) }
 {
-    out.reserve(ROOM)?;
+    out.reserve(MAX_TEXT_LEN)?;
     match a {
         Address::V4(bits) => put_v4(bits, out),
         Address::V6(bits) => put_v6(bits, out),
@@ -56,11 +56,11 @@ pub fn print_mac(mac: [u8; 6], out: &mut String) -> Result<(), AllocError>
     ensures ok { OnOk result (string_bytes out.new ≡ string_bytes out.old ++ spec.mac_text mac) }
     ensures err { OnErr result (string_bytes out.new ≡ string_bytes out.old) }
 {
-    out.reserve(ROOM)?;
+    out.reserve(MAX_TEXT_LEN)?;
     let [a, b, c, d, e, f] = mac;
-    put_three(a, b, c, out);
+    put_three_octets(a, b, c, out);
     put(b':', out);
-    put_three(d, e, f, out);
+    put_three_octets(d, e, f, out);
     Ok(())
 }
 
@@ -96,7 +96,7 @@ fn put_octet(n: u8, out: &mut String)
 }
 
 #[tactic(auto, unfolding(crate::specs::Printed::mac_text))]
-fn put_three(a: u8, b: u8, c: u8, out: &mut String)
+fn put_three_octets(a: u8, b: u8, c: u8, out: &mut String)
     requires room { string_len out.old + 8 ≤ string_capacity out.old }
     ensures bytes { string_bytes out.new ≡ string_bytes out.old ++ spec.mac_text (a ∷ b ∷ c ∷ []) }
     ensures len { string_len out.new ≡ string_len out.old + 8 }
@@ -212,19 +212,19 @@ fn put_groups(groups: &[u16], out: &mut String)
 {
     let (place, run) = longest_run(groups);
     if run < 2 {
-        put_colons(groups, out);
+        put_joined_by_colons(groups, out);
         return;
     }
     let (front, _) = groups.split_at(place);
     let (_, back) = groups.split_at(place + run);
-    put_colons(front, out);
+    put_joined_by_colons(front, out);
     put(b':', out);
     put(b':', out);
-    put_colons(back, out);
+    put_joined_by_colons(back, out);
 }
 
 #[tactic(auto, using(crate::proofs::Printing::colons_written))]
-fn put_colons(groups: &[u16], out: &mut String)
+fn put_joined_by_colons(groups: &[u16], out: &mut String)
     requires room { string_len out.old + 5 * length groups.now ≤ string_capacity out.old }
     ensures bytes { string_bytes out.new ≡ string_bytes out.old ++ spec.colons groups.now }
     ensures len { string_len out.new ≤ string_len out.old + 5 * length groups.now }
@@ -235,11 +235,11 @@ fn put_colons(groups: &[u16], out: &mut String)
     }
     let (_, rest) = groups.split_at(1);
     put_group(groups[0], out);
-    put_led(rest, out);
+    put_after_colons(rest, out);
 }
 
 // Appends each group behind a colon.
-fn put_led(groups: &[u16], out: &mut String)
+fn put_after_colons(groups: &[u16], out: &mut String)
     requires room { string_len out.old + 5 * length groups.now ≤ string_capacity out.old }
     ensures bytes { string_bytes out.new ≡ string_bytes out.old ++ flat_map (λ group. 58 ∷ spec.hex_text group) groups.now }
     ensures len { string_len out.new ≤ string_len out.old + 5 * length groups.now }

@@ -19,8 +19,8 @@ use Rattle.aft_entries.specs.declared.operation.RawOperation.{RawOperation}
 use Rattle.aft_entries.specs.declared.operation.Reason.{Reason}
 use Rattle.aft_entries.specs.Checked.{checked, checked_parts, name_of, payload_of, is_unsupported}
 use Rattle.aft_entries.specs.Steps.{key_parts, key_asked, put_or}
-use Rattle.aft_entries.specs.Naming.{number_of}
-use Rattle.aft_entries.specs.Shapes.{Keyed, fits}
+use Rattle.aft_entries.specs.InstanceNames.{number_of}
+use Rattle.aft_entries.specs.Shapes.{EntryValue, fits}
 
 abbrev pub by_op : Op → Key → Option Payload → Ask
 by_op Add key payload = put_or key false payload
@@ -130,7 +130,7 @@ reads_fit instances own (Some (raw.Label label route)) n p e d = route_fits name
 reads_fit instances own (Some raw.Mac) n p e d = cc
 reads_fit instances own (Some raw.Policy) n p e d = cc
 
-put_fits : (op : Option Op) (unsupported : Bool) (instance : Option ℕ) (name : Option KeyName) (payload : Option Payload) (entry : Keyed) (replace : Bool)
+put_fits : (op : Option Op) (unsupported : Bool) (instance : Option ℕ) (name : Option KeyName) (payload : Option Payload) (entry : EntryValue) (replace : Bool)
     → ((n : KeyName) (p : Payload) → name ≡ Some n → payload ≡ Some p → fits n p ≡ true)
     → checked_parts op unsupported instance name payload ≡ Put entry replace → fits entry.key.name entry.payload ≡ true
 put_fits None unsupported instance name payload entry replace h e = absurd cc
@@ -150,7 +150,7 @@ put_fits (Some Delete) false (Some instance) (Some name) payload entry replace h
     delete_in (Some payload) e = cc
 
 -- an entry that is put has a payload of its key's kind
-pub checked_fits : (instances : List (List ℕ)) (operation : RawOperation) (entry : Keyed) (replace : Bool) → checked instances operation ≡ Put entry replace → fits entry.key.name entry.payload ≡ true
+pub checked_fits : (instances : List (List ℕ)) (operation : RawOperation) (entry : EntryValue) (replace : Bool) → checked instances operation ≡ Put entry replace → fits entry.key.name entry.payload ≡ true
 unfolding checked
 checked_fits instances operation entry replace e =
     let number = number_of instances operation.instance in

@@ -7,7 +7,7 @@ use Rattle.std.proofs.lemmas.Bool.Decides.{nat_tests}
 use Rattle.std.proofs.lemmas.List.{drop_all}
 use Rattle.aft_entries.specs.declared.instances.InstancesFault.{InstancesFault}
 use Rattle.aft_entries.specs.declared.instances.InstancesFault.TheVariants.{Empty, BadName, Twice, TooMany}
-use Rattle.aft_entries.specs.Naming.{first_that_holds, holds_twice, is_bad_name, fault_by, fault_of}
+use Rattle.aft_entries.specs.InstanceNames.{first_that_holds, holds_twice, is_bad_name, fault_by, fault_of}
 
 pub length_map : {X Y : Type 0} (f : X → Y) (xs : List X) → length (map f xs) ≡ length xs
 length_map f [] = refl

@@ -3,7 +3,7 @@ use Rattle.std.specs.Prelude.{ℕ, ◌==◌, Bool, true, false, ◌&&◌, ◌||�
 use Rattle.std.specs.List.{list_any}
 use Rattle.std.specs.Result.{result_ok}
 use Rattle.addr_text.specs.declared.Address.{Address}
-use Rattle.addr_text.specs.Texts as text
+use Rattle.addr_text.specs.AddressGrammar as text
 use Rattle.aft_entries.specs.declared.entry.HopPayload.{HopPayload}
 use Rattle.aft_entries.specs.declared.entry.GroupPayload.{GroupPayload}
 use Rattle.aft_entries.specs.declared.entry.RoutePayload.{RoutePayload}
@@ -26,7 +26,7 @@ use Rattle.aft_entries.specs.declared.operation.RawRoute.{RawRoute}
 use Rattle.aft_entries.specs.declared.operation.Reason.{Reason}
 use Rattle.aft_entries.specs.declared.operation.Reason.TheVariants.{OpUnsupported, KindUnsupported, UnknownInstance, BadKey, BadPayload}
 use Rattle.aft_entries.specs.MemberOrder.{by_index}
-use Rattle.aft_entries.specs.Naming.{first_that_holds, holds_twice, number_of}
+use Rattle.aft_entries.specs.InstanceNames.{first_that_holds, holds_twice, number_of}
 
 -- Keys
 

@@ -1,7 +1,7 @@
-pub mod Bare
+pub mod IndexOnly
 pub mod Checked
 pub mod MemberOrder
-pub mod Naming
+pub mod InstanceNames
 pub mod Operations
 pub mod Order
 pub mod References

@@ -10,7 +10,7 @@ use Rattle.aft_entries.specs.declared.operation.RawOperation.{RawOperation}
 use Rattle.aft_entries.specs.declared.operation.Reason.{Reason}
 use Rattle.aft_entries.specs.declared.operation.Reason.TheVariants.{OpUnsupported, KindUnsupported, UnknownInstance, BadKey, BadPayload}
 use Rattle.aft_entries.specs.Checked.{is_unsupported, name_of}
-use Rattle.aft_entries.specs.Naming.{number_of}
+use Rattle.aft_entries.specs.InstanceNames.{number_of}
 
 -- the op and the key of an operation, or the first cause that the payload plays no part in
 abbrev pub key_parts : Option Op → Bool → Option ℕ → Option KeyName → Result (Op × Key) Reason

@@ -2,7 +2,7 @@ ghost use Rattle.std.specs.Prelude.{◌≡◌, ◌≤◌, ◌<◌, IfOk, map, le
 ghost use Rattle.std.specs.List.{list_any, position};
 ghost use Rattle.std.specs.Str.{bytes_eq};
 ghost use Rattle.std.specs.Result.{result_err};
-ghost use Rattle.aft_entries.specs.Naming.{fault_of, fault_by, holds_twice, is_bad_name, number_of};
+ghost use Rattle.aft_entries.specs.InstanceNames.{fault_of, fault_by, holds_twice, is_bad_name, number_of};
 
 use std::marker::Model;
 
@@ -29,7 +29,7 @@ pub struct Instances {
 
 impl Model for Instances {
     ghost use Rattle.std.specs.Prelude.{List, ℕ, IsTrue, is_none, map, string_bytes};
-    ghost use Rattle.aft_entries.specs.Naming.{fault_by};
+    ghost use Rattle.aft_entries.specs.InstanceNames.{fault_by};
 
     ghost Value = { List (List ℕ) };
 

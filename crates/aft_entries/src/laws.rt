@@ -6,7 +6,7 @@ ghost use Rattle.aft_entries.specs.declared.lists.Member.{Member};
 ghost use Rattle.aft_entries.specs.declared.operation.Ask.TheVariants.{Put};
 ghost use Rattle.aft_entries.specs.declared.operation.RawOperation.{RawOperation};
 ghost use Rattle.aft_entries.specs.Checked.{checked};
-ghost use Rattle.aft_entries.specs.Shapes.{Keyed, fits};
+ghost use Rattle.aft_entries.specs.Shapes.{EntryValue, fits};
 ghost use Rattle.aft_entries.specs.Same.{same_payload};
 
 /// Payloads are the same exactly where they are equal.
@@ -23,6 +23,6 @@ pub fn members_are_sorted()
 
 /// An entry that a checked operation puts has a payload of its key's kind.
 pub fn checked_entries_fit()
-    ensures { (instances : List (List ℕ)) (operation : RawOperation) (entry : Keyed) (replace : Bool) →
+    ensures { (instances : List (List ℕ)) (operation : RawOperation) (entry : EntryValue) (replace : Bool) →
         checked instances operation ≡ Put entry replace → fits entry.key.name entry.payload ≡ true }
 {}

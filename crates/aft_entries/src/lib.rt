@@ -1,18 +1,18 @@
 //! Entries of the forwarding tables: keys, payloads, and what an operation asks.
 #![tactic(auto)]
 
-mod bare;
 mod check;
 mod entry;
+mod index_only;
 mod instances;
 mod key;
 mod laws;
 mod lists;
 mod operation;
 
-pub use bare::check_bare_hop;
 pub use check::check_entry;
 pub use entry::{Entry, GroupPayload, HopPayload, Payload, RoutePayload, refers, refs};
+pub use index_only::check_index_only_hop;
 pub use instances::{Instances, InstancesFault};
 pub use key::{Key, KeyName, Kind, shard};
 pub use laws::{checked_entries_fit, members_are_sorted, same_payloads_are_equal};

@@ -1,25 +1,25 @@
 -- Groups that were written are read again.
 use Rattle.std.proofs.Common.{◌≡◌, ℕ, ◌^◌, ◌<◌, List, [], ◌∷◌, ◌++◌, map, length, Option, None, refl, sym, arith}
 use Rattle.std.proofs.lemmas.List.Concat.{flat_map-append}
-use Rattle.proto_wire.specs.Written.{bytes_field, Part, Text, spelling, spelled}
+use Rattle.proto_wire.specs.Written.{bytes_field, WrittenField, Text, field_encoding, encoded_fields}
 use Rattle.schema_numbers.specs.Numbers.{Numbers, field_of}
 use Rattle.schema_numbers.specs.Valid.{IsValid}
 use Rattle.schema_numbers.specs.declared.names.FieldName.TheVariants as field
 use Rattle.proto_schema.specs.declared.schema.MessageKind.TheVariants as message
 use Rattle.proto_schema.specs.declared.schema.FieldKind.TheVariants as kind
 use Rattle.proto_schema.specs.Legal.{first_fault}
-use Rattle.proto_schema.specs.Words.{number_at, repeated_at}
+use Rattle.proto_schema.specs.FieldValues.{number_at, repeated_at}
 use Rattle.aft_entries.specs.declared.key.Kind.TheVariants as entry_kind
 use Rattle.aft_entries.specs.declared.operation.RawGroup.{RawGroup}
 use Rattle.aft_entries.specs.declared.operation.RawEntry.TheVariants as entry
 use Rattle.aft_messages.specs.Reading.{embedded_at, uint_value_at, member_of, group_of, entry_of}
-use Rattle.aft_messages.specs.Writing.{number_field, filled_field, uint_value_field, member_field, group_bytes, raw_bytes}
-use Rattle.aft_messages.specs.Sent.{IsNumber, IsMember, IsGroup, IsReadAgain}
+use Rattle.aft_messages.specs.Writing.{nonzero_uint_field, nonempty_field, uint_value_field, member_field, group_bytes, raw_bytes}
+use Rattle.aft_messages.specs.Encodable.{IsNumber, IsMember, IsGroup, IsReadAgain}
 use Rattle.aft_messages.proofs.Parts.{Clean, number_said, message_said, repeated_said}
-use Rattle.aft_messages.proofs.Bunches.{OneField, one_legal, one_clean, TwoFields, two_legal, two_clean, first_nums, first_bits, second_bits, apart_of, number_parts, number_spelled, number_own, number_bunch, filled_parts, filled_spelled, filled_message, filled_bunch}
+use Rattle.aft_messages.proofs.FieldGroups.{OneField, one_legal, one_clean, TwoFields, two_legal, two_clean, first_nums, first_bits, second_bits, apart_of, number_parts, number_spelled, number_own, number_bunch, filled_parts, filled_spelled, filled_message, filled_bunch}
 use Rattle.aft_messages.proofs.Routes.{distinct, range, inner_fits, front_fits, back_fits, shorter, uint_value_parts, uint_value_spelled, uint_value_bunch, uint_value_own}
 use Rattle.aft_messages.proofs.Keys.{no_fault, payload_spelled, Key, key_two, payload_said}
-use Rattle.aft_messages.proofs.Many.{each_from, many_parts, many_bytes, many_spelled, many_own, many_bunch, many_said}
+use Rattle.aft_messages.proofs.RepeatedFields.{each_from, many_parts, many_bytes, many_spelled, many_own, many_bunch, many_said}
 
 -- The leaves of a member
 
@@ -46,19 +46,19 @@ abbrev leaves_of : Numbers → (ℕ × Option ℕ) → List ℕ
 leaves_of n member = uint_value_field (field_of n field.MemberLeavesWeight) member.1
 
 abbrev member_bytes : Numbers → (ℕ × Option ℕ) → List ℕ
-member_bytes n member = number_field (field_of n field.MemberKeyIndex) member.0 ++ filled_field (field_of n field.MemberKeyNextHop) (leaves_of n member)
+member_bytes n member = nonzero_uint_field (field_of n field.MemberKeyIndex) member.0 ++ nonempty_field (field_of n field.MemberKeyNextHop) (leaves_of n member)
 
-abbrev member_parts : Numbers → (ℕ × Option ℕ) → List Part
+abbrev member_parts : Numbers → (ℕ × Option ℕ) → List WrittenField
 member_parts n member = number_parts (field_of n field.MemberKeyIndex) member.0 ++ filled_parts (field_of n field.MemberKeyNextHop) (leaves_of n member)
 
-member_spelled : (n : Numbers) (member : ℕ × Option ℕ) → member_bytes n member ≡ spelled (member_parts n member)
+member_spelled : (n : Numbers) (member : ℕ × Option ℕ) → member_bytes n member ≡ encoded_fields (member_parts n member)
 member_spelled n member =
     rw (number_spelled (field_of n field.MemberKeyIndex) member.0, filled_spelled (field_of n field.MemberKeyNextHop) (leaves_of n member))
-    (sym (flat_map-append spelling (number_parts (field_of n field.MemberKeyIndex) member.0) (filled_parts (field_of n field.MemberKeyNextHop) (leaves_of n member))))
+    (sym (flat_map-append field_encoding (number_parts (field_of n field.MemberKeyIndex) member.0) (filled_parts (field_of n field.MemberKeyNextHop) (leaves_of n member))))
 
 leaves_fit : (n : Numbers) (member : ℕ × Option ℕ) → length (member_bytes n member) < 2 ^ 64 → length (leaves_of n member) < 2 ^ 64
 leaves_fit n member fits =
-    shorter (field_of n field.MemberKeyNextHop) (leaves_of n member) (back_fits (number_field (field_of n field.MemberKeyIndex) member.0) (filled_field (field_of n field.MemberKeyNextHop) (leaves_of n member)) fits)
+    shorter (field_of n field.MemberKeyNextHop) (leaves_of n member) (back_fits (nonzero_uint_field (field_of n field.MemberKeyIndex) member.0) (nonempty_field (field_of n field.MemberKeyNextHop) (leaves_of n member)) fits)
 
 member_two : (n : Numbers) (member : ℕ × Option ℕ) → IsValid n → IsMember member → length (member_bytes n member) < 2 ^ 64
     → TwoFields n message.MemberKey (field_of n field.MemberKeyIndex) (field_of n field.MemberKeyNextHop) kind.Number (kind.Message message.MemberLeaves)
@@ -90,7 +90,7 @@ member_again n valid member h fits =
 
 -- The payload of a group
 
-abbrev group_parts : Numbers → RawGroup → List Part
+abbrev group_parts : Numbers → RawGroup → List WrittenField
 group_parts n group = many_parts (field_of n field.NextHopGroupNextHop) (member_bytes n) group.members ++ uint_value_parts (field_of n field.NextHopGroupBackupNextHopGroup) group.backup
 
 abbrev group_whole : Numbers → RawGroup → List ℕ
@@ -100,10 +100,10 @@ group_is : (n : Numbers) (group : RawGroup) → group_bytes n group ≡ group_wh
 unfolding group_bytes member_field
 group_is n group = refl
 
-group_spelled : (n : Numbers) (group : RawGroup) → group_whole n group ≡ spelled (group_parts n group)
+group_spelled : (n : Numbers) (group : RawGroup) → group_whole n group ≡ encoded_fields (group_parts n group)
 group_spelled n group =
     rw (many_spelled (field_of n field.NextHopGroupNextHop) (member_bytes n) group.members, uint_value_spelled (field_of n field.NextHopGroupBackupNextHopGroup) group.backup)
-    (sym (flat_map-append spelling (many_parts (field_of n field.NextHopGroupNextHop) (member_bytes n) group.members) (uint_value_parts (field_of n field.NextHopGroupBackupNextHopGroup) group.backup)))
+    (sym (flat_map-append field_encoding (many_parts (field_of n field.NextHopGroupNextHop) (member_bytes n) group.members) (uint_value_parts (field_of n field.NextHopGroupBackupNextHopGroup) group.backup)))
 
 members_fit : (n : Numbers) (group : RawGroup) → length (group_whole n group) < 2 ^ 64 → length (many_bytes (field_of n field.NextHopGroupNextHop) (member_bytes n) group.members) < 2 ^ 64
 members_fit n group fits = front_fits (many_bytes (field_of n field.NextHopGroupNextHop) (member_bytes n) group.members) (uint_value_field (field_of n field.NextHopGroupBackupNextHopGroup) group.backup) fits
@@ -154,7 +154,7 @@ group_key n valid = record {
 }
 
 abbrev group_entry : Numbers → ℕ → List ℕ → List ℕ
-group_entry n id payload = number_field (field_of n field.NextHopGroupKeyId) id ++ bytes_field (field_of n field.NextHopGroupKeyNextHopGroup) payload
+group_entry n id payload = nonzero_uint_field (field_of n field.NextHopGroupKeyId) id ++ bytes_field (field_of n field.NextHopGroupKeyNextHopGroup) payload
 
 record GroupAgain (n : Numbers) (id : ℕ) (group : RawGroup) (bytes : List ℕ) : Type 0 where
   pub clean : Clean n message.NextHopGroupKey bytes
@@ -167,11 +167,11 @@ group_entry_again n id group valid low h fits =
     let a = field_of n field.NextHopGroupKeyId in
     let e = field_of n field.NextHopGroupKeyNextHopGroup in
     let payload = group_whole n group in
-    let back = back_fits (number_field a id) (bytes_field e payload) fits in
+    let back = back_fits (nonzero_uint_field a id) (bytes_field e payload) fits in
     let inside = inner_fits e payload back in
     let key = group_key n valid in
     let t = key_two n message.NextHopGroupKey message.NextHopGroup a e kind.Number (number_parts a id) payload key (number_bunch n kind.Number a id key.name low) back (group_clean n group valid h inside) in
-    let is = payload_spelled e payload (number_parts a id) (number_field a id) (number_spelled a id) in
+    let is = payload_spelled e payload (number_parts a id) (nonzero_uint_field a id) (number_spelled a id) in
     record {
       clean = rw is (two_clean t);
       name = rw (is, number_said a (number_parts a id ++ Text e payload ∷ []) (two_legal t), first_nums t) (number_own a id);

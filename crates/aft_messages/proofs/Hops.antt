@@ -1,25 +1,25 @@
 -- Next hops that were written are read again.
 use Rattle.std.proofs.Common.{◌≡◌, ℕ, ◌^◌, ◌<◌, List, [], ◌∷◌, ◌++◌, map, length, Option, None, refl, sym, arith}
 use Rattle.std.proofs.lemmas.List.Concat.{flat_map-append}
-use Rattle.proto_wire.specs.Written.{bytes_field, Part, Text, spelling, spelled}
+use Rattle.proto_wire.specs.Written.{bytes_field, WrittenField, Text, field_encoding, encoded_fields}
 use Rattle.schema_numbers.specs.Numbers.{Numbers, field_of}
 use Rattle.schema_numbers.specs.Valid.{IsValid}
 use Rattle.schema_numbers.specs.declared.names.FieldName.TheVariants as field
 use Rattle.proto_schema.specs.declared.schema.MessageKind.TheVariants as message
 use Rattle.proto_schema.specs.declared.schema.FieldKind.TheVariants as kind
 use Rattle.proto_schema.specs.Legal.{first_fault}
-use Rattle.proto_schema.specs.Words.{number_at, repeated_at}
+use Rattle.proto_schema.specs.FieldValues.{number_at, repeated_at}
 use Rattle.aft_entries.specs.declared.key.Kind.TheVariants as entry_kind
 use Rattle.aft_entries.specs.declared.operation.RawHop.{RawHop}
 use Rattle.aft_entries.specs.declared.operation.RawEntry.TheVariants as entry
 use Rattle.aft_messages.specs.Reading.{embedded_at, uint_value_at, string_value_at, label_of, hop_of, entry_of}
-use Rattle.aft_messages.specs.Writing.{number_field, filled_field, uint_value_field, string_value_field, label_field, address_fields, interface_field, tunnel_field, pushed_field, hop_bytes, raw_bytes}
-use Rattle.aft_messages.specs.Sent.{IsNumber, IsText, IsHop, IsReadAgain}
+use Rattle.aft_messages.specs.Writing.{nonzero_uint_field, nonempty_field, uint_value_field, string_value_field, label_field, address_fields, interface_field, tunnel_field, pushed_label_field, hop_bytes, raw_bytes}
+use Rattle.aft_messages.specs.Encodable.{IsNumber, IsText, IsHop, IsReadAgain}
 use Rattle.aft_messages.proofs.Parts.{Each, Clean, number_said, last_number_said, message_said, repeated_said}
-use Rattle.aft_messages.proofs.Bunches.{OneField, one_legal, one_clean, TwoFields, two_legal, two_clean, first_nums, first_bits, second_bits, apart_of, number_parts, number_spelled, number_own, number_bunch, label_parts, label_spelled, label_own, filled_parts, filled_spelled, filled_message, filled_bunch}
+use Rattle.aft_messages.proofs.FieldGroups.{OneField, one_legal, one_clean, TwoFields, two_legal, two_clean, first_nums, first_bits, second_bits, apart_of, number_parts, number_spelled, number_own, number_bunch, label_parts, label_spelled, label_own, filled_parts, filled_spelled, filled_message, filled_bunch}
 use Rattle.aft_messages.proofs.Routes.{distinct, range, inner_fits, front_fits, back_fits, shorter, uint_value_parts, uint_value_spelled, uint_value_bunch, uint_value_own, string_value_parts, string_value_spelled, string_value_bunch, string_value_own}
 use Rattle.aft_messages.proofs.Keys.{no_fault, label_bunch, payload_spelled, Key, key_two, payload_said}
-use Rattle.aft_messages.proofs.Many.{each_from, many_parts, many_bytes, many_spelled, many_own, many_bunch, many_said}
+use Rattle.aft_messages.proofs.RepeatedFields.{each_from, many_parts, many_bytes, many_spelled, many_own, many_bunch, many_said}
 use Rattle.aft_messages.proofs.Five.{apart, FiveFields, five_legal, five_clean, five_a, five_b, five_c, five_d, five_e}
 
 -- A pushed label
@@ -43,13 +43,13 @@ label_again n valid label h fits =
 abbrev device_bytes : Numbers → RawHop → List ℕ
 device_bytes n hop = string_value_field (field_of n field.InterfaceRefInterface) hop.interface ++ uint_value_field (field_of n field.InterfaceRefSubinterface) hop.subinterface
 
-abbrev device_parts : Numbers → RawHop → List Part
+abbrev device_parts : Numbers → RawHop → List WrittenField
 device_parts n hop = string_value_parts (field_of n field.InterfaceRefInterface) hop.interface ++ uint_value_parts (field_of n field.InterfaceRefSubinterface) hop.subinterface
 
-device_spelled : (n : Numbers) (hop : RawHop) → device_bytes n hop ≡ spelled (device_parts n hop)
+device_spelled : (n : Numbers) (hop : RawHop) → device_bytes n hop ≡ encoded_fields (device_parts n hop)
 device_spelled n hop =
     rw (string_value_spelled (field_of n field.InterfaceRefInterface) hop.interface, uint_value_spelled (field_of n field.InterfaceRefSubinterface) hop.subinterface)
-    (sym (flat_map-append spelling (string_value_parts (field_of n field.InterfaceRefInterface) hop.interface) (uint_value_parts (field_of n field.InterfaceRefSubinterface) hop.subinterface)))
+    (sym (flat_map-append field_encoding (string_value_parts (field_of n field.InterfaceRefInterface) hop.interface) (uint_value_parts (field_of n field.InterfaceRefSubinterface) hop.subinterface)))
 
 device_two : (n : Numbers) (hop : RawHop) → IsValid n → IsText hop.interface → IsNumber hop.subinterface → length (device_bytes n hop) < 2 ^ 64
     → TwoFields n message.InterfaceRef (field_of n field.InterfaceRefInterface) (field_of n field.InterfaceRefSubinterface) (kind.Message message.StringValue) (kind.Message message.UintValue)
@@ -83,13 +83,13 @@ subinterface_said n hop valid h k fits =
 abbrev tunnel_bytes : Numbers → RawHop → List ℕ
 tunnel_bytes n hop = string_value_field (field_of n field.IpInIpSrcIp) hop.source ++ string_value_field (field_of n field.IpInIpDstIp) hop.target
 
-abbrev tunnel_parts : Numbers → RawHop → List Part
+abbrev tunnel_parts : Numbers → RawHop → List WrittenField
 tunnel_parts n hop = string_value_parts (field_of n field.IpInIpSrcIp) hop.source ++ string_value_parts (field_of n field.IpInIpDstIp) hop.target
 
-tunnel_spelled : (n : Numbers) (hop : RawHop) → tunnel_bytes n hop ≡ spelled (tunnel_parts n hop)
+tunnel_spelled : (n : Numbers) (hop : RawHop) → tunnel_bytes n hop ≡ encoded_fields (tunnel_parts n hop)
 tunnel_spelled n hop =
     rw (string_value_spelled (field_of n field.IpInIpSrcIp) hop.source, string_value_spelled (field_of n field.IpInIpDstIp) hop.target)
-    (sym (flat_map-append spelling (string_value_parts (field_of n field.IpInIpSrcIp) hop.source) (string_value_parts (field_of n field.IpInIpDstIp) hop.target)))
+    (sym (flat_map-append field_encoding (string_value_parts (field_of n field.IpInIpSrcIp) hop.source) (string_value_parts (field_of n field.IpInIpDstIp) hop.target)))
 
 source_fits : (n : Numbers) (hop : RawHop) → length (tunnel_bytes n hop) < 2 ^ 64 → length (string_value_field (field_of n field.IpInIpSrcIp) hop.source) < 2 ^ 64
 source_fits n hop fits = front_fits (string_value_field (field_of n field.IpInIpSrcIp) hop.source) (string_value_field (field_of n field.IpInIpDstIp) hop.target) fits
@@ -131,10 +131,10 @@ abbrev mac_bytes : Numbers → RawHop → List ℕ
 mac_bytes n hop = string_value_field (field_of n field.NextHopMacAddress) hop.mac
 
 abbrev device_whole : Numbers → RawHop → List ℕ
-device_whole n hop = filled_field (field_of n field.NextHopInterfaceRef) (device_bytes n hop)
+device_whole n hop = nonempty_field (field_of n field.NextHopInterfaceRef) (device_bytes n hop)
 
 abbrev tunnel_whole : Numbers → RawHop → List ℕ
-tunnel_whole n hop = filled_field (field_of n field.NextHopIpInIp) (tunnel_bytes n hop)
+tunnel_whole n hop = nonempty_field (field_of n field.NextHopIpInIp) (tunnel_bytes n hop)
 
 abbrev push_bytes : Numbers → RawHop → List ℕ
 push_bytes n hop = many_bytes (field_of n field.NextHopPushedMplsLabelStack) (label_bytes n) hop.push
@@ -142,29 +142,29 @@ push_bytes n hop = many_bytes (field_of n field.NextHopPushedMplsLabelStack) (la
 abbrev hop_whole : Numbers → RawHop → List ℕ
 hop_whole n hop = (((ip_bytes n hop ++ mac_bytes n hop) ++ device_whole n hop) ++ tunnel_whole n hop) ++ push_bytes n hop
 
-abbrev ip_parts : Numbers → RawHop → List Part
+abbrev ip_parts : Numbers → RawHop → List WrittenField
 ip_parts n hop = string_value_parts (field_of n field.NextHopIpAddress) hop.ip
 
-abbrev mac_parts : Numbers → RawHop → List Part
+abbrev mac_parts : Numbers → RawHop → List WrittenField
 mac_parts n hop = string_value_parts (field_of n field.NextHopMacAddress) hop.mac
 
-abbrev interface_parts : Numbers → RawHop → List Part
+abbrev interface_parts : Numbers → RawHop → List WrittenField
 interface_parts n hop = filled_parts (field_of n field.NextHopInterfaceRef) (device_bytes n hop)
 
-abbrev ipip_parts : Numbers → RawHop → List Part
+abbrev ipip_parts : Numbers → RawHop → List WrittenField
 ipip_parts n hop = filled_parts (field_of n field.NextHopIpInIp) (tunnel_bytes n hop)
 
-abbrev push_parts : Numbers → RawHop → List Part
+abbrev push_parts : Numbers → RawHop → List WrittenField
 push_parts n hop = many_parts (field_of n field.NextHopPushedMplsLabelStack) (label_bytes n) hop.push
 
-abbrev hop_parts : Numbers → RawHop → List Part
+abbrev hop_parts : Numbers → RawHop → List WrittenField
 hop_parts n hop = (((ip_parts n hop ++ mac_parts n hop) ++ interface_parts n hop) ++ ipip_parts n hop) ++ push_parts n hop
 
 hop_is : (n : Numbers) (hop : RawHop) → hop_bytes n hop ≡ hop_whole n hop
-unfolding hop_bytes address_fields interface_field tunnel_field pushed_field
+unfolding hop_bytes address_fields interface_field tunnel_field pushed_label_field
 hop_is n hop = refl
 
-hop_spelled : (n : Numbers) (hop : RawHop) → hop_whole n hop ≡ spelled (hop_parts n hop)
+hop_spelled : (n : Numbers) (hop : RawHop) → hop_whole n hop ≡ encoded_fields (hop_parts n hop)
 hop_spelled n hop =
     rw (
       string_value_spelled (field_of n field.NextHopIpAddress) hop.ip,
@@ -172,10 +172,10 @@ hop_spelled n hop =
       filled_spelled (field_of n field.NextHopInterfaceRef) (device_bytes n hop),
       filled_spelled (field_of n field.NextHopIpInIp) (tunnel_bytes n hop),
       many_spelled (field_of n field.NextHopPushedMplsLabelStack) (label_bytes n) hop.push,
-      flat_map-append spelling (((ip_parts n hop ++ mac_parts n hop) ++ interface_parts n hop) ++ ipip_parts n hop) (push_parts n hop),
-      flat_map-append spelling ((ip_parts n hop ++ mac_parts n hop) ++ interface_parts n hop) (ipip_parts n hop),
-      flat_map-append spelling (ip_parts n hop ++ mac_parts n hop) (interface_parts n hop),
-      flat_map-append spelling (ip_parts n hop) (mac_parts n hop),
+      flat_map-append field_encoding (((ip_parts n hop ++ mac_parts n hop) ++ interface_parts n hop) ++ ipip_parts n hop) (push_parts n hop),
+      flat_map-append field_encoding ((ip_parts n hop ++ mac_parts n hop) ++ interface_parts n hop) (ipip_parts n hop),
+      flat_map-append field_encoding (ip_parts n hop ++ mac_parts n hop) (interface_parts n hop),
+      flat_map-append field_encoding (ip_parts n hop) (mac_parts n hop),
     ) refl
 
 -- each part of a next hop is short enough
@@ -291,7 +291,7 @@ hop_key n valid = record {
 }
 
 abbrev hop_entry : Numbers → ℕ → List ℕ → List ℕ
-hop_entry n index payload = number_field (field_of n field.NextHopKeyIndex) index ++ bytes_field (field_of n field.NextHopKeyNextHop) payload
+hop_entry n index payload = nonzero_uint_field (field_of n field.NextHopKeyIndex) index ++ bytes_field (field_of n field.NextHopKeyNextHop) payload
 
 record HopAgain (n : Numbers) (index : ℕ) (hop : RawHop) (bytes : List ℕ) : Type 0 where
   pub clean : Clean n message.NextHopKey bytes
@@ -304,11 +304,11 @@ hop_entry_again n index hop valid low h fits =
     let a = field_of n field.NextHopKeyIndex in
     let e = field_of n field.NextHopKeyNextHop in
     let payload = hop_whole n hop in
-    let back = back_fits (number_field a index) (bytes_field e payload) fits in
+    let back = back_fits (nonzero_uint_field a index) (bytes_field e payload) fits in
     let inside = hop_fits n hop (inner_fits e payload back) in
     let key = hop_key n valid in
     let t = key_two n message.NextHopKey message.NextHop a e kind.Number (number_parts a index) payload key (number_bunch n kind.Number a index key.name low) back (hop_clean n hop valid h inside) in
-    let is = payload_spelled e payload (number_parts a index) (number_field a index) (number_spelled a index) in
+    let is = payload_spelled e payload (number_parts a index) (nonzero_uint_field a index) (number_spelled a index) in
     record {
       clean = rw is (two_clean t);
       name = rw (is, number_said a (number_parts a index ++ Text e payload ∷ []) (two_legal t), first_nums t) (number_own a index);

@@ -3,7 +3,7 @@ use Rattle.std.proofs.Common.{◌≡◌, ℕ, ◌^◌, ◌<◌, ◌==◌, true, 
 use Rattle.std.specs.Str.{is_utf8}
 use Rattle.std.proofs.lemmas.List.{append-nil}
 use Rattle.std.proofs.lemmas.List.Concat.{flat_map-append}
-use Rattle.proto_wire.specs.Written.{bytes_field, Part, Text, spelling, spelled}
+use Rattle.proto_wire.specs.Written.{bytes_field, WrittenField, Text, field_encoding, encoded_fields}
 use Rattle.schema_numbers.specs.Numbers.{Numbers, field_of}
 use Rattle.schema_numbers.specs.Valid.{IsValid}
 use Rattle.schema_numbers.specs.declared.names.FieldName.TheVariants as field
@@ -13,15 +13,15 @@ use Rattle.proto_schema.specs.declared.schema.FieldKind.{FieldKind}
 use Rattle.proto_schema.specs.declared.schema.FieldKind.TheVariants as kind
 use Rattle.proto_schema.specs.Schema.{fields_of}
 use Rattle.proto_schema.specs.Legal.{first_fault}
-use Rattle.proto_schema.specs.Words.{last_number_at}
+use Rattle.proto_schema.specs.FieldValues.{last_number_at}
 use Rattle.aft_entries.specs.declared.key.Kind.TheVariants as entry_kind
 use Rattle.aft_entries.specs.declared.operation.RawRoute.{RawRoute}
 use Rattle.aft_entries.specs.declared.operation.RawEntry.TheVariants as entry
 use Rattle.aft_messages.specs.Reading.{text_of, name_at, embedded_at, route_of}
-use Rattle.aft_messages.specs.Writing.{filled_field, label_field, route_bytes, raw_bytes}
-use Rattle.aft_messages.specs.Sent.{IsNumber, IsRoute, IsReadAgain}
+use Rattle.aft_messages.specs.Writing.{nonempty_field, label_field, route_bytes, raw_bytes}
+use Rattle.aft_messages.specs.Encodable.{IsNumber, IsRoute, IsReadAgain}
 use Rattle.aft_messages.proofs.Parts.{Each, Clean, last_number_said, text_said, message_said}
-use Rattle.aft_messages.proofs.Bunches.{InBunch, TwoFields, two_legal, two_clean, first_nums, first_bits, second_bits, apart_of, label_parts, label_spelled, label_own, filled_parts, filled_spelled, filled_text, filled_bunch, whole_message}
+use Rattle.aft_messages.proofs.FieldGroups.{InBunch, TwoFields, two_legal, two_clean, first_nums, first_bits, second_bits, apart_of, label_parts, label_spelled, label_own, filled_parts, filled_spelled, filled_text, filled_bunch, whole_message}
 use Rattle.aft_messages.proofs.Routes.{distinct, InRange, range, inner_fits, front_fits, back_fits, shorter, Leaves, route_clean, route_said}
 
 -- A message that is clean has no fault.
@@ -34,9 +34,9 @@ pub payload_bunch : (n : Numbers) (m : MessageKind) (number : ℕ) (bytes : List
     → Each (InBunch n (kind.Message m) number) (Text number bytes ∷ [])
 payload_bunch n m number bytes range fits c = (((range.0, range.1, inner_fits number bytes fits), refl, c), tt)
 
-pub payload_spelled : (number : ℕ) (bytes : List ℕ) (xs : List Part) (front : List ℕ) → front ≡ spelled xs → front ++ bytes_field number bytes ≡ spelled (xs ++ Text number bytes ∷ [])
+pub payload_spelled : (number : ℕ) (bytes : List ℕ) (xs : List WrittenField) (front : List ℕ) → front ≡ encoded_fields xs → front ++ bytes_field number bytes ≡ encoded_fields (xs ++ Text number bytes ∷ [])
 payload_spelled number bytes xs front is =
-    rw (is, flat_map-append spelling xs (Text number bytes ∷ [])) (ap (λ back. spelled xs ++ back) (sym (append-nil (bytes_field number bytes))))
+    rw (is, flat_map-append field_encoding xs (Text number bytes ∷ [])) (ap (λ back. encoded_fields xs ++ back) (sym (append-nil (bytes_field number bytes))))
 
 -- a message of a key and a payload
 pub record Key (n : Numbers) (m inner : MessageKind) (a e : ℕ) (k : FieldKind) : Type 0 where
@@ -45,12 +45,12 @@ pub record Key (n : Numbers) (m inner : MessageKind) (a e : ℕ) (k : FieldKind)
   pub name : InRange a
   pub payload : InRange e
 
-pub key_two : (n : Numbers) (m inner : MessageKind) (a e : ℕ) (k : FieldKind) (xs : List Part) (bytes : List ℕ) → Key n m inner a e k → Each (InBunch n k a) xs
+pub key_two : (n : Numbers) (m inner : MessageKind) (a e : ℕ) (k : FieldKind) (xs : List WrittenField) (bytes : List ℕ) → Key n m inner a e k → Each (InBunch n k a) xs
     → length (bytes_field e bytes) < 2 ^ 64 → Clean n inner bytes → TwoFields n m a e k (kind.Message inner) xs (Text e bytes ∷ [])
 key_two n m inner a e k xs bytes key each fits c = record { rows = key.rows; apart = key.apart; first = each; second = payload_bunch n inner e bytes key.payload fits c }
 
-pub payload_said : {n : Numbers} {m inner : MessageKind} {a e : ℕ} {k : FieldKind} {xs : List Part} {bytes : List ℕ} → TwoFields n m a e k (kind.Message inner) xs (Text e bytes ∷ [])
-    → embedded_at e (spelled (xs ++ Text e bytes ∷ [])) ≡ bytes
+pub payload_said : {n : Numbers} {m inner : MessageKind} {a e : ℕ} {k : FieldKind} {xs : List WrittenField} {bytes : List ℕ} → TwoFields n m a e k (kind.Message inner) xs (Text e bytes ∷ [])
+    → embedded_at e (encoded_fields (xs ++ Text e bytes ∷ [])) ≡ bytes
 payload_said {n} {m} {inner} {a} {e} {k} {xs} {bytes} t =
     rw (message_said e (xs ++ Text e bytes ∷ []) (two_legal t), second_bits t, whole_message e bytes) refl
 
@@ -62,18 +62,18 @@ record PrefixAgain (n : Numbers) (m : MessageKind) (p e g i : ℕ) (prefix : Lis
   pub payload : route_of g i (embedded_at e bytes) ≡ route
 
 prefix_again : (n : Numbers) (m inner : MessageKind) (p e g i : ℕ) (prefix : List ℕ) (route : RawRoute) → Key n m inner p e kind.Text → Leaves n inner g i → is_utf8 prefix ≡ true → IsRoute route
-    → length (filled_field p prefix ++ bytes_field e (route_bytes g i route)) < 2 ^ 64
-    → PrefixAgain n m p e g i prefix route (filled_field p prefix ++ bytes_field e (route_bytes g i route))
+    → length (nonempty_field p prefix ++ bytes_field e (route_bytes g i route)) < 2 ^ 64
+    → PrefixAgain n m p e g i prefix route (nonempty_field p prefix ++ bytes_field e (route_bytes g i route))
 unfolding text_of
 prefix_again n m inner p e g i prefix route key leaves good h fits =
-    let front = front_fits (filled_field p prefix) (bytes_field e (route_bytes g i route)) fits in
-    let back = back_fits (filled_field p prefix) (bytes_field e (route_bytes g i route)) fits in
+    let front = front_fits (nonempty_field p prefix) (bytes_field e (route_bytes g i route)) fits in
+    let back = back_fits (nonempty_field p prefix) (bytes_field e (route_bytes g i route)) fits in
     let inside = inner_fits e (route_bytes g i route) back in
     let each = filled_bunch n kind.Text p prefix key.name (shorter p prefix front) good in
     let t = key_two n m inner p e kind.Text (filled_parts p prefix) (route_bytes g i route) key each back (route_clean n inner g i route leaves h inside) in
-    let is = payload_spelled e (route_bytes g i route) (filled_parts p prefix) (filled_field p prefix) (filled_spelled p prefix) in
+    let is = payload_spelled e (route_bytes g i route) (filled_parts p prefix) (nonempty_field p prefix) (filled_spelled p prefix) in
     record {
-      fault = rw is (no_fault n m (spelled (filled_parts p prefix ++ Text e (route_bytes g i route) ∷ [])) (two_clean t));
+      fault = rw is (no_fault n m (encoded_fields (filled_parts p prefix ++ Text e (route_bytes g i route) ∷ [])) (two_clean t));
       name = rw (is, text_said p (filled_parts p prefix ++ Text e (route_bytes g i route) ∷ []) (two_legal t), first_bits t, filled_text p prefix, good) refl;
       payload = rw (is, payload_said t) (route_said n inner g i route leaves h inside);
     }
@@ -165,7 +165,7 @@ label_route_again n m inner a e g i label route key leaves good h fits =
     let t = key_two n m inner a e kind.Number (label_parts a label) (route_bytes g i route) key each back (route_clean n inner g i route leaves h inside) in
     let is = payload_spelled e (route_bytes g i route) (label_parts a label) (label_field a label) (label_spelled a label) in
     record {
-      fault = rw is (no_fault n m (spelled (label_parts a label ++ Text e (route_bytes g i route) ∷ [])) (two_clean t));
+      fault = rw is (no_fault n m (encoded_fields (label_parts a label ++ Text e (route_bytes g i route) ∷ [])) (two_clean t));
       name = rw (is, last_number_said a (label_parts a label ++ Text e (route_bytes g i route) ∷ []) (two_legal t), first_nums t) (label_own a label);
       payload = rw (is, payload_said t) (route_said n inner g i route leaves h inside);
     }

@@ -1,11 +1,11 @@
 pub mod Texts
 pub mod VarintSize
-pub mod Filled
+pub mod NonEmpty
 pub mod Parts
-pub mod Bunches
+pub mod FieldGroups
 pub mod Routes
 pub mod Keys
-pub mod Many
+pub mod RepeatedFields
 pub mod Groups
 pub mod Five
 pub mod Hops

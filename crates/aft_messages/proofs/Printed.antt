@@ -16,7 +16,7 @@ use Rattle.aft_entries.specs.declared.entry.RoutePayload.{RoutePayload}
 use Rattle.aft_entries.specs.declared.operation.RawEntry.{RawEntry}
 use Rattle.aft_messages.specs.Writing.{raw_bytes}
 use Rattle.aft_messages.specs.Printing.{raw_hop, raw_member, raw_group, raw_route}
-use Rattle.aft_messages.specs.Sent.{IsNumber, IsText, IsMember, IsGroup, IsHop, IsRoute, IsSent, IsReadAgain, raw_kind}
+use Rattle.aft_messages.specs.Encodable.{IsNumber, IsText, IsMember, IsGroup, IsHop, IsRoute, IsEncodable, IsReadAgain, raw_kind}
 use Rattle.aft_messages.proofs.Routes.{back_fits}
 use Rattle.aft_messages.proofs.Again.{again}
 
@@ -69,7 +69,7 @@ pub from_ok : {T E P : Type 0} (result : Result T E) (failed : Bool) → failed 
 from_ok (Ok value) failed e f p = p
 from_ok (Err x) failed e f p = cc
 
-pub printed_again : (n : Numbers) (raw : RawEntry) (before after : List ℕ) → IsValid n → IsSent raw → after ≡ before ++ raw_bytes n raw → length after < 2 ^ 64
+pub printed_again : (n : Numbers) (raw : RawEntry) (before after : List ℕ) → IsValid n → IsEncodable raw → after ≡ before ++ raw_bytes n raw → length after < 2 ^ 64
     → IfSome (raw_kind raw) (λ kind. IsReadAgain n kind raw)
 printed_again n raw before after valid sent is fits =
     again n raw valid sent (back_fits before (raw_bytes n raw) (subst (λ (bytes : List ℕ). length bytes < 2 ^ 64) is fits))

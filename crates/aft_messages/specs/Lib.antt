@@ -2,4 +2,4 @@ pub mod Decodes
 pub mod Reading
 pub mod Writing
 pub mod Printing
-pub mod Sent
+pub mod Encodable

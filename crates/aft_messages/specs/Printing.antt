@@ -62,7 +62,7 @@ abbrev pub raw_of : List (List ℕ) → Entry → RawEntry
 raw_of names entry = raw_from names entry.key.name entry.payload
 
 -- The instance of a route's group is one of so many.
-abbrev pub IsNamed : ℕ → Payload → Type 0
-IsNamed count (payload.Hop hop) = Unit {0}
-IsNamed count (payload.Group group) = Unit {0}
-IsNamed count (payload.Route route) = route.instance < count
+abbrev pub HasKnownInstance : ℕ → Payload → Type 0
+HasKnownInstance count (payload.Hop hop) = Unit {0}
+HasKnownInstance count (payload.Group group) = Unit {0}
+HasKnownInstance count (payload.Route route) = route.instance < count

@@ -7,7 +7,7 @@ use Rattle.schema_numbers.specs.Numbers.{Numbers, field_of}
 use Rattle.schema_numbers.specs.declared.names.FieldName.TheVariants as field
 use Rattle.proto_schema.specs.declared.schema.MessageKind.{MessageKind}
 use Rattle.proto_schema.specs.declared.schema.MessageKind.TheVariants as message
-use Rattle.proto_schema.specs.Words.{last_number_at, number_at, text_at, message_at, repeated_at}
+use Rattle.proto_schema.specs.FieldValues.{last_number_at, number_at, text_at, message_at, repeated_at}
 use Rattle.aft_entries.specs.declared.key.Kind.{Kind}
 use Rattle.aft_entries.specs.declared.key.Kind.TheVariants as kind
 use Rattle.aft_entries.specs.declared.operation.RawHop.{RawHop}
@@ -21,10 +21,10 @@ unfoldable pub text_of : List ℕ → List ℕ
 text_of bytes = if is_utf8 bytes then bytes else []
 
 -- bytes are there, and not none
-abbrev pub has_some : Option (List ℕ) → Bool
-has_some None = false
-has_some (Some []) = false
-has_some (Some (b ∷ bytes)) = true
+abbrev pub is_nonempty : Option (List ℕ) → Bool
+is_nonempty None = false
+is_nonempty (Some []) = false
+is_nonempty (Some (b ∷ bytes)) = true
 
 -- the text of a field; an absent one is empty
 abbrev pub name_at : ℕ → List ℕ → List ℕ

@@ -13,21 +13,21 @@ use Rattle.aft_entries.specs.declared.operation.RawEntry.{RawEntry}
 use Rattle.aft_entries.specs.declared.operation.RawEntry.TheVariants as entry
 
 -- a number that is 0 is left out
-unfoldable pub number_field : ℕ → ℕ → List ℕ
-number_field number value = if value == 0 then [] else uint_field number value
+unfoldable pub nonzero_uint_field : ℕ → ℕ → List ℕ
+nonzero_uint_field number value = if value == 0 then [] else uint_field number value
 
 -- a field of bytes that is left out where there are none: a text, or a message without a field
-unfoldable pub filled_field : ℕ → List ℕ → List ℕ
-filled_field number [] = []
-filled_field number (byte ∷ bytes) = bytes_field number (byte ∷ bytes)
+unfoldable pub nonempty_field : ℕ → List ℕ → List ℕ
+nonempty_field number [] = []
+nonempty_field number (byte ∷ bytes) = bytes_field number (byte ∷ bytes)
 
 -- a wrapper, whose value is field 1, where there is a number
 abbrev pub uint_value_field : ℕ → Option ℕ → List ℕ
-uint_value_field number value = option_map_or (λ v. bytes_field number (number_field 1 v)) value []
+uint_value_field number value = option_map_or (λ v. bytes_field number (nonzero_uint_field 1 v)) value []
 
 -- a wrapper where there is a text
 abbrev pub string_value_field : ℕ → Option (List ℕ) → List ℕ
-string_value_field number text = option_map_or (λ t. bytes_field number (filled_field 1 t)) text []
+string_value_field number text = option_map_or (λ t. bytes_field number (nonempty_field 1 t)) text []
 
 -- a label is a member of a oneof: it is written where it is there, also as 0
 abbrev pub label_field : ℕ → Option ℕ → List ℕ
@@ -40,20 +40,20 @@ address_fields n ip mac = string_value_field (field_of n field.NextHopIpAddress)
 -- the message of an interface, where one of its fields is there
 unfoldable pub interface_field : Numbers → Option (List ℕ) → Option ℕ → List ℕ
 interface_field n interface subinterface =
-    filled_field (field_of n field.NextHopInterfaceRef) (
+    nonempty_field (field_of n field.NextHopInterfaceRef) (
     string_value_field (field_of n field.InterfaceRefInterface) interface
     ++ uint_value_field (field_of n field.InterfaceRefSubinterface) subinterface)
 
 -- the message of a tunnel, where one of its fields is there
 unfoldable pub tunnel_field : Numbers → Option (List ℕ) → Option (List ℕ) → List ℕ
 tunnel_field n source target =
-    filled_field (field_of n field.NextHopIpInIp) (
+    nonempty_field (field_of n field.NextHopIpInIp) (
     string_value_field (field_of n field.IpInIpSrcIp) source
     ++ string_value_field (field_of n field.IpInIpDstIp) target)
 
 -- the message of a pushed label
-unfoldable pub pushed_field : Numbers → Option ℕ → List ℕ
-pushed_field n label = bytes_field (field_of n field.NextHopPushedMplsLabelStack) (label_field (field_of n field.PushedLabelLabelUint64) label)
+unfoldable pub pushed_label_field : Numbers → Option ℕ → List ℕ
+pushed_label_field n label = bytes_field (field_of n field.NextHopPushedMplsLabelStack) (label_field (field_of n field.PushedLabelLabelUint64) label)
 
 -- the payload of a next hop
 unfoldable pub hop_bytes : Numbers → RawHop → List ℕ
@@ -61,14 +61,14 @@ hop_bytes n hop =
     address_fields n hop.ip hop.mac
     ++ interface_field n hop.interface hop.subinterface
     ++ tunnel_field n hop.source hop.target
-    ++ flat_map (pushed_field n) hop.push
+    ++ flat_map (pushed_label_field n) hop.push
 
 -- a group's next hop, with its weight where it is there
 unfoldable pub member_field : Numbers → (ℕ × Option ℕ) → List ℕ
 member_field n member =
     bytes_field (field_of n field.NextHopGroupNextHop) (
-    number_field (field_of n field.MemberKeyIndex) member.0
-    ++ filled_field (field_of n field.MemberKeyNextHop) (uint_value_field (field_of n field.MemberLeavesWeight) member.1))
+    nonzero_uint_field (field_of n field.MemberKeyIndex) member.0
+    ++ nonempty_field (field_of n field.MemberKeyNextHop) (uint_value_field (field_of n field.MemberLeavesWeight) member.1))
 
 -- the payload of a group
 unfoldable pub group_bytes : Numbers → RawGroup → List ℕ
@@ -89,10 +89,10 @@ mpls_bytes n route = route_bytes (field_of n field.LabelLeavesNextHopGroup) (fie
 
 -- The message of an entry; its payload is always written. Of MAC and policy entries nothing is kept.
 abbrev pub raw_bytes : Numbers → RawEntry → List ℕ
-raw_bytes n (entry.Hop index hop) = number_field (field_of n field.NextHopKeyIndex) index ++ bytes_field (field_of n field.NextHopKeyNextHop) (hop_bytes n hop)
-raw_bytes n (entry.Group id group) = number_field (field_of n field.NextHopGroupKeyId) id ++ bytes_field (field_of n field.NextHopGroupKeyNextHopGroup) (group_bytes n group)
-raw_bytes n (entry.V4 prefix route) = filled_field (field_of n field.Ipv4EntryKeyPrefix) prefix ++ bytes_field (field_of n field.Ipv4EntryKeyEntry) (ipv4_bytes n route)
-raw_bytes n (entry.V6 prefix route) = filled_field (field_of n field.Ipv6EntryKeyPrefix) prefix ++ bytes_field (field_of n field.Ipv6EntryKeyEntry) (ipv6_bytes n route)
+raw_bytes n (entry.Hop index hop) = nonzero_uint_field (field_of n field.NextHopKeyIndex) index ++ bytes_field (field_of n field.NextHopKeyNextHop) (hop_bytes n hop)
+raw_bytes n (entry.Group id group) = nonzero_uint_field (field_of n field.NextHopGroupKeyId) id ++ bytes_field (field_of n field.NextHopGroupKeyNextHopGroup) (group_bytes n group)
+raw_bytes n (entry.V4 prefix route) = nonempty_field (field_of n field.Ipv4EntryKeyPrefix) prefix ++ bytes_field (field_of n field.Ipv4EntryKeyEntry) (ipv4_bytes n route)
+raw_bytes n (entry.V6 prefix route) = nonempty_field (field_of n field.Ipv6EntryKeyPrefix) prefix ++ bytes_field (field_of n field.Ipv6EntryKeyEntry) (ipv6_bytes n route)
 raw_bytes n (entry.Label label route) = label_field (field_of n field.LabelEntryKeyLabelUint64) label ++ bytes_field (field_of n field.LabelEntryKeyLabelEntry) (mpls_bytes n route)
 raw_bytes n entry.Mac = []
 raw_bytes n entry.Policy = []

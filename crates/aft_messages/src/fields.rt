@@ -1,16 +1,16 @@
 ghost use Rattle.std.specs.Prelude.{◌≡◌, ◌≤◌, ◌++◌, ◌+◌, ◌*◌, [], OnOk, OnErr, length, take, drop};
 ghost use Rattle.std.specs.Option.{option_copied};
 ghost use Rattle.proto_wire.specs.Written.{varint, bytes_field};
-ghost use Rattle.aft_messages.specs.Writing.{number_field, filled_field, uint_value_field, string_value_field, label_field};
+ghost use Rattle.aft_messages.specs.Writing.{nonzero_uint_field, nonempty_field, uint_value_field, string_value_field, label_field};
 
-use crate::sizes::number_size;
+use crate::sizes::nonzero_uint_size;
 use proto_wire::{write_bytes, write_uint, write_varint};
 use std::alloc::AllocError;
 
 /// Appends a field of a number, and nothing where the number is 0. Without memory `out` is unchanged.
-#[tactic(auto, unfolding(crate::specs::Writing::number_field))]
-pub fn write_number(number: u32, value: u64, out: &mut Vec<u8>) -> Result<(), AllocError>
-    ensures ok { OnOk result (out.new.items ≡ out.old.items ++ number_field number value) }
+#[tactic(auto, unfolding(crate::specs::Writing::nonzero_uint_field))]
+pub fn write_nonzero_uint(number: u32, value: u64, out: &mut Vec<u8>) -> Result<(), AllocError>
+    ensures ok { OnOk result (out.new.items ≡ out.old.items ++ nonzero_uint_field number value) }
     ensures err { OnErr result (out.new.items ≡ out.old.items) }
 {
     if value == 0 {
@@ -21,19 +21,19 @@ pub fn write_number(number: u32, value: u64, out: &mut Vec<u8>) -> Result<(), Al
 }
 
 /// Appends two numbers, one behind the other. Without memory `out` is unchanged.
-pub fn write_two(
+pub fn write_two_uints(
     number: u32,
     value: u64,
     next_number: u32,
     next_value: u64,
     out: &mut Vec<u8>,
 ) -> Result<(), AllocError>
-    ensures ok { OnOk result (out.new.items ≡ out.old.items ++ number_field number value ++ number_field next_number next_value) }
+    ensures ok { OnOk result (out.new.items ≡ out.old.items ++ nonzero_uint_field number value ++ nonzero_uint_field next_number next_value) }
     ensures err { OnErr result (out.new.items ≡ out.old.items) }
 {
     let before = out.len();
-    write_number(number, value, out)?;
-    if write_number(next_number, next_value, out).is_err() {
+    write_nonzero_uint(number, value, out)?;
+    if write_nonzero_uint(next_number, next_value, out).is_err() {
         out.truncate(before);
         return Err(AllocError);
     }
@@ -41,7 +41,7 @@ pub fn write_two(
 }
 
 /// Appends what stands before the bytes of an embedded message of this size in bytes. Without memory `out` is unchanged.
-pub fn write_head(number: u32, size: usize, out: &mut Vec<u8>) -> Result<(), AllocError>
+pub fn write_length_prefix(number: u32, size: usize, out: &mut Vec<u8>) -> Result<(), AllocError>
     ensures ok { OnOk result (out.new.items ≡ out.old.items ++ varint (number * 8 + 2) ++ varint size) }
     ensures err { OnErr result (out.new.items ≡ out.old.items) }
 {
@@ -55,36 +55,44 @@ pub fn write_head(number: u32, size: usize, out: &mut Vec<u8>) -> Result<(), All
 }
 
 /// Makes the bytes of `out` from `start` on an embedded message. Without memory `out` is unchanged.
-pub fn enclose(number: u32, start: usize, out: &mut Vec<u8>) -> Result<(), AllocError>
+pub fn write_length_delimited(
+    number: u32,
+    start: usize,
+    out: &mut Vec<u8>,
+) -> Result<(), AllocError>
     requires { start ≤ length out.old.items }
     ensures ok { OnOk result (out.new.items ≡ take start out.old.items ++ bytes_field number (drop start out.old.items)) }
     ensures err { OnErr result (out.new.items ≡ out.old.items) }
 {
     let size = out.len() - start;
-    write_head(number, size, out)?;
+    write_length_prefix(number, size, out)?;
     let (_, tail) = out.as_mut_slice().split_at_mut(start);
     tail.rotate_left(size);
     Ok(())
 }
 
 /// Makes the bytes of `out` from `start` on an embedded message, where there are some. Without memory `out` is unchanged.
-#[tactic(auto, using(crate::proofs::Filled::filled))]
-pub fn enclose_filled(number: u32, start: usize, out: &mut Vec<u8>) -> Result<(), AllocError>
+#[tactic(auto, using(crate::proofs::NonEmpty::nonempty))]
+pub fn write_nonempty_length_delimited(
+    number: u32,
+    start: usize,
+    out: &mut Vec<u8>,
+) -> Result<(), AllocError>
     requires { start ≤ length out.old.items }
-    ensures ok { OnOk result (out.new.items ≡ take start out.old.items ++ filled_field number (drop start out.old.items)) }
+    ensures ok { OnOk result (out.new.items ≡ take start out.old.items ++ nonempty_field number (drop start out.old.items)) }
     ensures err { OnErr result (out.new.items ≡ out.old.items) }
 {
     if out.len() == start {
         Ok(())
     } else {
-        enclose(number, start, out)
+        write_length_delimited(number, start, out)
     }
 }
 
 /// Appends a field of a text, and nothing where the text is empty. Without memory `out` is unchanged.
-#[tactic(auto, unfolding(crate::specs::Writing::filled_field))]
-pub fn write_text(number: u32, text: &[u8], out: &mut Vec<u8>) -> Result<(), AllocError>
-    ensures ok { OnOk result (out.new.items ≡ out.old.items ++ filled_field number text.now) }
+#[tactic(auto, unfolding(crate::specs::Writing::nonempty_field))]
+pub fn write_nonempty_text(number: u32, text: &[u8], out: &mut Vec<u8>) -> Result<(), AllocError>
+    ensures ok { OnOk result (out.new.items ≡ out.old.items ++ nonempty_field number text.now) }
     ensures err { OnErr result (out.new.items ≡ out.old.items) }
 {
     match text {
@@ -109,12 +117,12 @@ pub fn write_uint_value(
 }
 
 fn write_wrapped_number(number: u32, value: u64, out: &mut Vec<u8>) -> Result<(), AllocError>
-    ensures ok { OnOk result (out.new.items ≡ out.old.items ++ bytes_field number (number_field 1 value)) }
+    ensures ok { OnOk result (out.new.items ≡ out.old.items ++ bytes_field number (nonzero_uint_field 1 value)) }
     ensures err { OnErr result (out.new.items ≡ out.old.items) }
 {
     let before = out.len();
-    write_head(number, number_size(1, value), out)?;
-    if write_number(1, value, out).is_err() {
+    write_length_prefix(number, nonzero_uint_size(1, value), out)?;
+    if write_nonzero_uint(1, value, out).is_err() {
         out.truncate(before);
         return Err(AllocError);
     }
@@ -137,12 +145,12 @@ pub fn write_string_value(
 }
 
 fn write_wrapped_text(number: u32, text: &[u8], out: &mut Vec<u8>) -> Result<(), AllocError>
-    ensures ok { OnOk result (out.new.items ≡ out.old.items ++ bytes_field number (filled_field 1 text.now)) }
+    ensures ok { OnOk result (out.new.items ≡ out.old.items ++ bytes_field number (nonempty_field 1 text.now)) }
     ensures err { OnErr result (out.new.items ≡ out.old.items) }
 {
     let before = out.len();
-    write_text(1, text, out)?;
-    if enclose(number, before, out).is_err() {
+    write_nonempty_text(1, text, out)?;
+    if write_length_delimited(number, before, out).is_err() {
         out.truncate(before);
         return Err(AllocError);
     }

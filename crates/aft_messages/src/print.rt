@@ -6,13 +6,13 @@ ghost use Rattle.schema_numbers.specs.Numbers.{field_of};
 ghost use Rattle.schema_numbers.specs.declared.names.FieldName.TheVariants as field;
 ghost use Rattle.addr_text.specs.Printed.{address_text, mac_text, v4_prefix_text, v6_prefix_text};
 ghost use Rattle.aft_entries.specs.declared.operation.RawEntry.TheVariants as raw_entry;
-ghost use Rattle.aft_messages.specs.Writing.{pushed_field, hop_bytes, member_field, group_bytes, raw_bytes};
-ghost use Rattle.aft_messages.specs.Printing.{raw_hop, raw_group, raw_member, raw_route, raw_of, IsNamed};
-ghost use Rattle.aft_messages.specs.Sent.{IsNumber, IsMember, IsGroup, IsHop, IsSent, IsReadAgain, raw_kind};
+ghost use Rattle.aft_messages.specs.Writing.{pushed_label_field, hop_bytes, member_field, group_bytes, raw_bytes};
+ghost use Rattle.aft_messages.specs.Printing.{raw_hop, raw_group, raw_member, raw_route, raw_of, HasKnownInstance};
+ghost use Rattle.aft_messages.specs.Encodable.{IsNumber, IsMember, IsGroup, IsHop, IsEncodable, IsReadAgain, raw_kind};
 
-use crate::fields::{enclose, write_number, write_uint_value};
+use crate::fields::{write_length_delimited, write_nonzero_uint, write_uint_value};
 use crate::write::{
-    text_of, write_hop_texts, write_ipv4, write_ipv6, write_member, write_mpls, write_pushed,
+    text_of, write_hop_texts, write_ipv4, write_ipv6, write_member, write_mpls, write_pushed_label,
 };
 use addr_text::{
     Address, Prefix4, Prefix6, print_addr, print_mac, print_v4_prefix, print_v6_prefix,
@@ -60,13 +60,13 @@ fn printed_mac(alloc: Global, mac: Option<[u8; 6]>) -> Result<Option<Name>, Allo
 }
 
 fn write_labels(n: &Numbering, labels: &[u32], out: &mut Vec<u8>) -> Result<(), AllocError>
-    ensures ok { OnOk result (out.new.items ≡ out.old.items ++ flat_map (pushed_field n.now) (map Some labels.now)) }
+    ensures ok { OnOk result (out.new.items ≡ out.old.items ++ flat_map (pushed_label_field n.now) (map Some labels.now)) }
     ensures err { OnErr result (out.new.items ≡ out.old.items) }
     ensures sent { OnOk result (All IsNumber (map Some labels.now)) }
 {
     let before = out.len();
     for label in labels {
-        if write_pushed(n, Some(u64::from(*label)), out).is_err() {
+        if write_pushed_label(n, Some(u64::from(*label)), out).is_err() {
             out.truncate(before);
             return Err(AllocError);
         }
@@ -96,7 +96,7 @@ fn write_hop(
     let tunnel = (text_of(&source), text_of(&target));
     write_hop_texts(n, addresses, interface, tunnel, out)?;
     if write_labels(n, hop.push.as_slice(), out).is_err()
-        || enclose(n.field(FieldName::NextHopKeyNextHop), before, out).is_err()
+        || write_length_delimited(n.field(FieldName::NextHopKeyNextHop), before, out).is_err()
     {
         out.truncate(before);
         return Err(AllocError);
@@ -113,10 +113,10 @@ fn write_hop_entry(
 ) -> Result<(), AllocError>
     ensures ok { OnOk result (out.new.items ≡ out.old.items ++ raw_bytes n.now (raw_entry.Hop index (raw_hop hop.now))) }
     ensures err { OnErr result (out.new.items ≡ out.old.items) }
-    ensures sent { OnOk result (IsSent (raw_entry.Hop index (raw_hop hop.now))) }
+    ensures sent { OnOk result (IsEncodable (raw_entry.Hop index (raw_hop hop.now))) }
 {
     let before = out.len();
-    write_number(n.field(FieldName::NextHopKeyIndex), index, out)?;
+    write_nonzero_uint(n.field(FieldName::NextHopKeyIndex), index, out)?;
     if write_hop(alloc, n, hop, out).is_err() {
         out.truncate(before);
         return Err(AllocError);
@@ -154,7 +154,7 @@ fn write_group(n: &Numbering, group: &GroupPayload, out: &mut Vec<u8>) -> Result
     let outer = n.field(FieldName::NextHopGroupKeyNextHopGroup);
     write_members(n, group.members.as_slice(), out)?;
     if write_uint_value(backup, group.backup, out).is_err()
-        || enclose(outer, before, out).is_err()
+        || write_length_delimited(outer, before, out).is_err()
     {
         out.truncate(before);
         return Err(AllocError);
@@ -170,10 +170,10 @@ fn write_group_entry(
 ) -> Result<(), AllocError>
     ensures ok { OnOk result (out.new.items ≡ out.old.items ++ raw_bytes n.now (raw_entry.Group id (raw_group group.now))) }
     ensures err { OnErr result (out.new.items ≡ out.old.items) }
-    ensures sent { OnOk result (IsSent (raw_entry.Group id (raw_group group.now))) }
+    ensures sent { OnOk result (IsEncodable (raw_entry.Group id (raw_group group.now))) }
 {
     let before = out.len();
-    write_number(n.field(FieldName::NextHopGroupKeyId), id, out)?;
+    write_nonzero_uint(n.field(FieldName::NextHopGroupKeyId), id, out)?;
     if write_group(n, group, out).is_err() {
         out.truncate(before);
         return Err(AllocError);
@@ -192,7 +192,7 @@ fn write_ipv4_entry(
     requires { route.now.instance < length i.now }
     ensures ok { OnOk result (out.new.items ≡ out.old.items ++ raw_bytes n.now (raw_entry.V4 (v4_prefix_text prefix) (raw_route i.now route.now))) }
     ensures err { OnErr result (out.new.items ≡ out.old.items) }
-    ensures sent { OnOk result (IsSent (raw_entry.V4 (v4_prefix_text prefix) (raw_route i.now route.now))) }
+    ensures sent { OnOk result (IsEncodable (raw_entry.V4 (v4_prefix_text prefix) (raw_route i.now route.now))) }
 {
     let mut text = String::new(alloc);
     print_v4_prefix(prefix, &mut text)?;
@@ -213,7 +213,7 @@ fn write_ipv6_entry(
     requires { route.now.instance < length i.now }
     ensures ok { OnOk result (out.new.items ≡ out.old.items ++ raw_bytes n.now (raw_entry.V6 (v6_prefix_text prefix) (raw_route i.now route.now))) }
     ensures err { OnErr result (out.new.items ≡ out.old.items) }
-    ensures sent { OnOk result (IsSent (raw_entry.V6 (v6_prefix_text prefix) (raw_route i.now route.now))) }
+    ensures sent { OnOk result (IsEncodable (raw_entry.V6 (v6_prefix_text prefix) (raw_route i.now route.now))) }
 {
     let mut text = String::new(alloc);
     print_v6_prefix(prefix, &mut text)?;
@@ -233,7 +233,7 @@ fn write_label_entry(
     requires { route.now.instance < length i.now }
     ensures ok { OnOk result (out.new.items ≡ out.old.items ++ raw_bytes n.now (raw_entry.Label (Some label) (raw_route i.now route.now))) }
     ensures err { OnErr result (out.new.items ≡ out.old.items) }
-    ensures sent { OnOk result (IsSent (raw_entry.Label (Some label) (raw_route i.now route.now))) }
+    ensures sent { OnOk result (IsEncodable (raw_entry.Label (Some label) (raw_route i.now route.now))) }
 {
     has_64_bits(Some(route.group));
     let instance = Some(i.name(route.instance).as_bytes());
@@ -247,10 +247,10 @@ fn write_entry(
     entry: &Entry,
     out: &mut Vec<u8>,
 ) -> Result<(), AllocError>
-    requires { IsNamed (length i.now) entry.now.payload }
+    requires { HasKnownInstance (length i.now) entry.now.payload }
     ensures ok { OnOk result (out.new.items ≡ out.old.items ++ raw_bytes n.now (raw_of i.now entry.now)) }
     ensures err { OnErr result (out.new.items ≡ out.old.items) }
-    ensures sent { OnOk result (IsSent (raw_of i.now entry.now)) }
+    ensures sent { OnOk result (IsEncodable (raw_of i.now entry.now)) }
 {
     match &entry.payload {
         Payload::Hop(hop) => match &entry.key.name {
@@ -280,10 +280,10 @@ pub fn encode_entry(
     entry: &Entry,
     out: &mut Vec<u8>,
 ) -> Result<(), AllocError>
-    requires { IsNamed (length i.now) entry.now.payload }
+    requires { HasKnownInstance (length i.now) entry.now.payload }
     ensures ok { OnOk result (out.new.items ≡ out.old.items ++ raw_bytes n.now (raw_of i.now entry.now)) }
     ensures err { OnErr result (out.new.items ≡ out.old.items) }
-    ensures sent { OnOk result (IsSent (raw_of i.now entry.now)) }
+    ensures sent { OnOk result (IsEncodable (raw_of i.now entry.now)) }
     ensures again { OnOk result (IfSome (raw_kind (raw_of i.now entry.now)) (λ kind. IsReadAgain n.now kind (raw_of i.now entry.now))) }
 {
     write_entry(alloc, n, i, entry, out)?;

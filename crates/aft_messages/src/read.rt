@@ -2,12 +2,12 @@ ghost use Rattle.std.specs.Prelude.{◌≡◌, [], IfOk, map};
 ghost use Rattle.schema_numbers.specs.Numbers.{field_of};
 ghost use Rattle.schema_numbers.specs.declared.names.FieldName.TheVariants as field;
 ghost use Rattle.aft_entries.specs.declared.key.Kind.TheVariants as kind;
-ghost use Rattle.proto_schema.specs.Words.{repeated_at};
+ghost use Rattle.proto_schema.specs.FieldValues.{repeated_at};
 ghost use Rattle.proto_schema.specs.Legal.{first_fault as fault_of};
 ghost use Rattle.aft_messages.specs.Decodes.{Decodes};
 ghost use Rattle.aft_messages.specs.Reading.{label_of as label_said, member_of as member_said, hop_of as hop_said, group_of as group_said, route_of as route_said, entry_of, key_message as message_of};
 
-use crate::words::{embedded_at, read_text, string_value_at, uint_value_at};
+use crate::field_values::{embedded_at, read_text, string_value_at, uint_value_at};
 use aft_entries::{Kind, RawEntry, RawGroup, RawHop, RawLabels, RawMembers, RawRoute};
 use proto_schema::{
     MessageFault, MessageKind, first_fault, last_number_at, number_at, piece_of, text_at,
@@ -97,10 +97,10 @@ fn read_hop(alloc: Global, n: &Numbering, bytes: &[u8]) -> Result<RawHop, AllocE
 fn read_hop_fields(alloc: Global, n: &Numbering, bytes: &[u8]) -> Result<RawHop, AllocError>
     ensures { IfOk result (λ hop. hop ≡ hop_said n.now bytes.now) }
 {
-    let joined = embedded_at(alloc, n.field(FieldName::NextHopInterfaceRef), bytes)?;
-    let device = joined.as_bytes();
-    let joined = embedded_at(alloc, n.field(FieldName::NextHopIpInIp), bytes)?;
-    let tunnel = joined.as_bytes();
+    let merged_bytes = embedded_at(alloc, n.field(FieldName::NextHopInterfaceRef), bytes)?;
+    let device = merged_bytes.as_bytes();
+    let merged_bytes = embedded_at(alloc, n.field(FieldName::NextHopIpInIp), bytes)?;
+    let tunnel = merged_bytes.as_bytes();
     let ip = string_value_at(alloc, n.field(FieldName::NextHopIpAddress), bytes)?;
     let mac = string_value_at(alloc, n.field(FieldName::NextHopMacAddress), bytes)?;
     let interface = string_value_at(alloc, n.field(FieldName::InterfaceRefInterface), device)?;

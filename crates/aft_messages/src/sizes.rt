@@ -1,6 +1,6 @@
 ghost use Rattle.std.specs.Prelude.{◌≡◌, ◌≤◌, length};
 ghost use Rattle.proto_wire.specs.Written.{varint};
-ghost use Rattle.aft_messages.specs.Writing.{number_field};
+ghost use Rattle.aft_messages.specs.Writing.{nonzero_uint_field};
 
 /// How many bytes a number takes as a varint.
 #[tactic(auto, using(crate::proofs::VarintSize::sizes))]
@@ -18,9 +18,9 @@ pub fn varint_size(value: u64) -> usize
 }
 
 /// How many bytes a field of a number takes, none where the number is 0.
-#[tactic(auto, unfolding(crate::specs::Writing::number_field))]
-pub fn number_size(number: u32, value: u64) -> usize
-    ensures size { result ≡ length (number_field number value) }
+#[tactic(auto, unfolding(crate::specs::Writing::nonzero_uint_field))]
+pub fn nonzero_uint_size(number: u32, value: u64) -> usize
+    ensures size { result ≡ length (nonzero_uint_field number value) }
     ensures bound { result ≤ 20 }
 {
     if value == 0 {

@@ -5,12 +5,12 @@ ghost use Rattle.proto_wire.specs.Written.{bytes_field};
 ghost use Rattle.schema_numbers.specs.Numbers.{field_of};
 ghost use Rattle.schema_numbers.specs.declared.names.FieldName.TheVariants as field;
 ghost use Rattle.aft_entries.specs.declared.operation.RawEntry.TheVariants as raw_entry;
-ghost use Rattle.aft_messages.specs.Sent.{IsText};
-ghost use Rattle.aft_messages.specs.Writing.{address_fields, interface_field, tunnel_field, pushed_field, hop_bytes, member_field, group_bytes, route_bytes, filled_field, uint_value_field, raw_bytes};
+ghost use Rattle.aft_messages.specs.Encodable.{IsText};
+ghost use Rattle.aft_messages.specs.Writing.{address_fields, interface_field, tunnel_field, pushed_label_field, hop_bytes, member_field, group_bytes, route_bytes, nonempty_field, uint_value_field, raw_bytes};
 
 use crate::fields::{
-    enclose, enclose_filled, write_label, write_number, write_string_value, write_text,
-    write_uint_value,
+    write_label, write_length_delimited, write_nonempty_length_delimited, write_nonempty_text,
+    write_nonzero_uint, write_string_value, write_uint_value,
 };
 use aft_entries::{Name, RawEntry, RawGroup, RawHop};
 use schema_numbers::{FieldName, Numbering};
@@ -60,7 +60,7 @@ fn write_interface(
     let outer = n.field(FieldName::NextHopInterfaceRef);
     write_string_value(n.field(FieldName::InterfaceRefInterface), interface, out)?;
     if write_uint_value(inner, subinterface, out).is_err()
-        || enclose_filled(outer, before, out).is_err()
+        || write_nonempty_length_delimited(outer, before, out).is_err()
     {
         out.truncate(before);
         return Err(AllocError);
@@ -83,7 +83,7 @@ fn write_tunnel(
     let outer = n.field(FieldName::NextHopIpInIp);
     write_string_value(n.field(FieldName::IpInIpSrcIp), source, out)?;
     if write_string_value(inner, target, out).is_err()
-        || enclose_filled(outer, before, out).is_err()
+        || write_nonempty_length_delimited(outer, before, out).is_err()
     {
         out.truncate(before);
         return Err(AllocError);
@@ -116,14 +116,23 @@ pub fn write_hop_texts(
     Ok(())
 }
 
-#[tactic(auto, unfolding(crate::specs::Writing::pushed_field))]
-pub fn write_pushed(n: &Numbering, label: Option<u64>, out: &mut Vec<u8>) -> Result<(), AllocError>
-    ensures ok { OnOk result (out.new.items ≡ out.old.items ++ pushed_field n.now label) }
+#[tactic(auto, unfolding(crate::specs::Writing::pushed_label_field))]
+pub fn write_pushed_label(
+    n: &Numbering,
+    label: Option<u64>,
+    out: &mut Vec<u8>,
+) -> Result<(), AllocError>
+    ensures ok { OnOk result (out.new.items ≡ out.old.items ++ pushed_label_field n.now label) }
     ensures err { OnErr result (out.new.items ≡ out.old.items) }
 {
     let before = out.len();
     write_label(n.field(FieldName::PushedLabelLabelUint64), label, out)?;
-    if enclose(n.field(FieldName::NextHopPushedMplsLabelStack), before, out).is_err() {
+    if write_length_delimited(
+        n.field(FieldName::NextHopPushedMplsLabelStack),
+        before,
+        out,
+    ).is_err()
+    {
         out.truncate(before);
         return Err(AllocError);
     }
@@ -131,12 +140,12 @@ pub fn write_pushed(n: &Numbering, label: Option<u64>, out: &mut Vec<u8>) -> Res
 }
 
 fn write_labels(n: &Numbering, labels: &[Option<u64>], out: &mut Vec<u8>) -> Result<(), AllocError>
-    ensures ok { OnOk result (out.new.items ≡ out.old.items ++ flat_map (pushed_field n.now) labels.now) }
+    ensures ok { OnOk result (out.new.items ≡ out.old.items ++ flat_map (pushed_label_field n.now) labels.now) }
     ensures err { OnErr result (out.new.items ≡ out.old.items) }
 {
     let before = out.len();
     for label in labels {
-        if write_pushed(n, *label, out).is_err() {
+        if write_pushed_label(n, *label, out).is_err() {
             out.truncate(before);
             return Err(AllocError);
         }
@@ -155,7 +164,7 @@ fn write_hop(n: &Numbering, hop: &RawHop, out: &mut Vec<u8>) -> Result<(), Alloc
     let tunnel = (text_of(&hop.source), text_of(&hop.target));
     write_hop_texts(n, addresses, interface, tunnel, out)?;
     if write_labels(n, hop.push.as_slice(), out).is_err()
-        || enclose(n.field(FieldName::NextHopKeyNextHop), before, out).is_err()
+        || write_length_delimited(n.field(FieldName::NextHopKeyNextHop), before, out).is_err()
     {
         out.truncate(before);
         return Err(AllocError);
@@ -165,12 +174,12 @@ fn write_hop(n: &Numbering, hop: &RawHop, out: &mut Vec<u8>) -> Result<(), Alloc
 
 // The leaves of a group's next hop, where there is a weight.
 fn write_weight(n: &Numbering, weight: Option<u64>, out: &mut Vec<u8>) -> Result<(), AllocError>
-    ensures ok { OnOk result (out.new.items ≡ out.old.items ++ filled_field (field_of n.now field.MemberKeyNextHop) (uint_value_field (field_of n.now field.MemberLeavesWeight) weight)) }
+    ensures ok { OnOk result (out.new.items ≡ out.old.items ++ nonempty_field (field_of n.now field.MemberKeyNextHop) (uint_value_field (field_of n.now field.MemberLeavesWeight) weight)) }
     ensures err { OnErr result (out.new.items ≡ out.old.items) }
 {
     let before = out.len();
     write_uint_value(n.field(FieldName::MemberLeavesWeight), weight, out)?;
-    if enclose_filled(n.field(FieldName::MemberKeyNextHop), before, out).is_err() {
+    if write_nonempty_length_delimited(n.field(FieldName::MemberKeyNextHop), before, out).is_err() {
         out.truncate(before);
         return Err(AllocError);
     }
@@ -188,9 +197,9 @@ pub fn write_member(
     ensures err { OnErr result (out.new.items ≡ out.old.items) }
 {
     let before = out.len();
-    write_number(n.field(FieldName::MemberKeyIndex), index, out)?;
+    write_nonzero_uint(n.field(FieldName::MemberKeyIndex), index, out)?;
     if write_weight(n, weight, out).is_err()
-        || enclose(n.field(FieldName::NextHopGroupNextHop), before, out).is_err()
+        || write_length_delimited(n.field(FieldName::NextHopGroupNextHop), before, out).is_err()
     {
         out.truncate(before);
         return Err(AllocError);
@@ -227,7 +236,7 @@ fn write_group(n: &Numbering, group: &RawGroup, out: &mut Vec<u8>) -> Result<(),
     let outer = n.field(FieldName::NextHopGroupKeyNextHopGroup);
     write_members(n, group.members.as_slice(), out)?;
     if write_uint_value(backup, group.backup, out).is_err()
-        || enclose(outer, before, out).is_err()
+        || write_length_delimited(outer, before, out).is_err()
     {
         out.truncate(before);
         return Err(AllocError);
@@ -250,7 +259,7 @@ fn write_route(
     let before = out.len();
     write_uint_value(numbers.0, group, out)?;
     if write_string_value(numbers.1, instance, out).is_err()
-        || enclose(outer, before, out).is_err()
+        || write_length_delimited(outer, before, out).is_err()
     {
         out.truncate(before);
         return Err(AllocError);
@@ -272,7 +281,7 @@ pub fn write_ipv4(
     let outer = n.field(FieldName::Ipv4EntryKeyEntry);
     let inner = n.field(FieldName::Ipv4LeavesNextHopGroup);
     let named = n.field(FieldName::Ipv4LeavesNextHopGroupNetworkInstance);
-    write_text(n.field(FieldName::Ipv4EntryKeyPrefix), prefix, out)?;
+    write_nonempty_text(n.field(FieldName::Ipv4EntryKeyPrefix), prefix, out)?;
     if write_route(outer, (inner, named), group, instance, out).is_err() {
         out.truncate(before);
         return Err(AllocError);
@@ -294,7 +303,7 @@ pub fn write_ipv6(
     let outer = n.field(FieldName::Ipv6EntryKeyEntry);
     let inner = n.field(FieldName::Ipv6LeavesNextHopGroup);
     let named = n.field(FieldName::Ipv6LeavesNextHopGroupNetworkInstance);
-    write_text(n.field(FieldName::Ipv6EntryKeyPrefix), prefix, out)?;
+    write_nonempty_text(n.field(FieldName::Ipv6EntryKeyPrefix), prefix, out)?;
     if write_route(outer, (inner, named), group, instance, out).is_err() {
         out.truncate(before);
         return Err(AllocError);
@@ -334,7 +343,7 @@ fn write_raw_hop(
     ensures err { OnErr result (out.new.items ≡ out.old.items) }
 {
     let before = out.len();
-    write_number(n.field(FieldName::NextHopKeyIndex), index, out)?;
+    write_nonzero_uint(n.field(FieldName::NextHopKeyIndex), index, out)?;
     if write_hop(n, hop, out).is_err() {
         out.truncate(before);
         return Err(AllocError);
@@ -352,7 +361,7 @@ fn write_raw_group(
     ensures err { OnErr result (out.new.items ≡ out.old.items) }
 {
     let before = out.len();
-    write_number(n.field(FieldName::NextHopGroupKeyId), id, out)?;
+    write_nonzero_uint(n.field(FieldName::NextHopGroupKeyId), id, out)?;
     if write_group(n, group, out).is_err() {
         out.truncate(before);
         return Err(AllocError);

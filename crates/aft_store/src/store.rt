@@ -1,7 +1,7 @@
 ghost use Rattle.std.specs.Prelude.{◌≡◌, ◌+◌, ◌≤◌, ◌<◌, ◌⊎◌, [], length, IsTrue, OnOk, OnErr, slice_get, option_map, option_copied, vec_len, vec_capacity};
 ghost use Rattle.table_model.specs.Table.{lookup, has, put, take_out};
 ghost use Rattle.aft_store.specs.Boxes.{unboxed, IsLaidOut};
-ghost use Rattle.aft_store.specs.Held.{Held};
+ghost use Rattle.aft_store.specs.StoreState.{StoreState};
 
 use crate::boxes::{add_boxes, insert_box, take_box};
 use crate::place::place_of;
@@ -19,7 +19,7 @@ pub struct Store {
 }
 
 impl Model for Store {
-    ghost Value = { Held };
+    ghost Value = { StoreState };
 
     ghost view = { λ s. record { entries = unboxed s.entries.items; spare = vec_len s.spare } };
 

@@ -1,6 +1,6 @@
 -- A run of a server is one of `apply`.
 use Rattle.std.proofs.Common.{◌≡◌, ℕ, List, [], ◌++◌, Option, Some, None, refl, sym, ap, inl, inr}
-use Rattle.message_run.specs.Answering.{Answering}
+use Rattle.message_run.specs.Behaviour.{Behaviour}
 use Rattle.message_run.specs.Runs.{Told, Runs, RunsOver, IsClosing}
 use Rattle.message_run.specs.Outcomes.{outcome_of, output_of}
 use Rattle.message_run.specs.Written.{WrotePart}
@@ -8,7 +8,7 @@ use Rattle.std.specs.Option.{option_map}
 use Rattle.std.proofs.lemmas.List.{append-nil}
 use Rattle.apply_path.specs.Applied.{anything}
 
-pub forgets : (f : Answering) (has_done has_left : List (List ℕ) → Type 0) (status : ℕ) (told : Told) → Runs f has_done has_left status told → Runs f anything anything status told
+pub forgets : (f : Behaviour) (has_done has_left : List (List ℕ) → Type 0) (status : ℕ) (told : Told) → Runs f has_done has_left status told → Runs f anything anything status told
 forgets f has_done has_left status told r = record {
   taken = r.taken;
   taken_is = r.taken_is;
@@ -21,7 +21,7 @@ forgets f has_done has_left status told r = record {
   part = r.part;
 }
 
-pub forgets_over : (f : Answering) (has_done has_left : List (List ℕ) → Type 0) (status : ℕ) (input : List ℕ) (told : Told) → RunsOver f has_done has_left status input told → RunsOver f anything anything status input told
+pub forgets_over : (f : Behaviour) (has_done has_left : List (List ℕ) → Type 0) (status : ℕ) (input : List ℕ) (told : Told) → RunsOver f has_done has_left status input told → RunsOver f anything anything status input told
 forgets_over f has_done has_left status input told r = record {
   taken = r.taken;
   rest = r.rest;
@@ -29,7 +29,7 @@ forgets_over f has_done has_left status input told r = record {
   taken_is = r.taken_is;
   left_is = r.left_is;
   done = r.done;
-  unread = r.unread;
+  unreadable = r.unreadable;
   refused = r.refused;
   server = λ closing. tt;
   failed = λ e. let h = r.failed e in (tt, h.1, h.2);
@@ -55,7 +55,7 @@ not_closing (inr (inr e)) = absurd cc
 nothing_written : (before : Option (List ℕ)) (bytes : List ℕ) → WrotePart before bytes before
 nothing_written before bytes = record { written = []; others = bytes; parts = refl; wrote = nothing_taken before }
 
-pub lacks_memory : (f : Answering) (taken left before : Option (List ℕ)) → Runs f anything anything 6 (record { taken_before = taken; taken_after = taken; left_before = left; left_after = left; before = before; after = before })
+pub lacks_memory : (f : Behaviour) (taken left before : Option (List ℕ)) → Runs f anything anything 6 (record { taken_before = taken; taken_after = taken; left_before = left; left_after = left; before = before; after = before })
 lacks_memory f taken left before = record {
   taken = [];
   taken_is = nothing_taken taken;
@@ -68,7 +68,7 @@ lacks_memory f taken left before = record {
   part = nothing_written before (output_of f []);
 }
 
-pub lacks_memory_over : (f : Answering) (input : List ℕ) (taken left before : Option (List ℕ)) → left ≡ Some input → RunsOver f anything anything 6 input (record { taken_before = taken; taken_after = taken; left_before = left; left_after = left; before = before; after = before })
+pub lacks_memory_over : (f : Behaviour) (input : List ℕ) (taken left before : Option (List ℕ)) → left ≡ Some input → RunsOver f anything anything 6 input (record { taken_before = taken; taken_after = taken; left_before = left; left_after = left; before = before; after = before })
 lacks_memory_over f input taken left before told = record {
   taken = [];
   rest = input;
@@ -76,7 +76,7 @@ lacks_memory_over f input taken left before told = record {
   taken_is = nothing_taken taken;
   left_is = told;
   done = λ e. absurd cc;
-  unread = λ e. absurd cc;
+  unreadable = λ e. absurd cc;
   refused = λ e. absurd cc;
   server = λ closing. tt;
   failed = λ e. absurd cc;

@@ -14,11 +14,11 @@ use Rattle.table_model.specs.Reply.{reply_to}
 use Rattle.rib_core.specs.Core.{Core}
 use Rattle.rib_core.specs.Stands.{StandsFor, Acts}
 use Rattle.rib_core.specs.Built.{as_served}
-use Rattle.message_run.specs.declared.answerer.Answered.{Answered}
-use Rattle.message_run.specs.declared.answerer.Answered.TheVariants.{GoesOn, Ends, Unread, NoMemory}
+use Rattle.message_run.specs.declared.message_handler.Handled.{Handled}
+use Rattle.message_run.specs.declared.message_handler.Handled.TheVariants.{Continue, Ends, Unreadable, NoMemory}
 use Rattle.table_model.specs.Reply.{is_gone, answer}
-use Rattle.apply_path.specs.History.{event, answered, with_events, up_to_end, first_end, is_operate, id_of, moment_of, code_by, code_of, owed_bytes, answer_bytes, Series, series_of, series}
-use Rattle.apply_path.specs.Serves.{Stood, IsTold, Replied, Went, Did, Does, behind}
+use Rattle.apply_path.specs.History.{event, answered, with_events, up_to_end, first_end, is_operate, id_of, moment_of, status_code_by, status_code_of, response_item, answer_bytes, CommandRun, run_of_events, run_commands}
+use Rattle.apply_path.specs.SessionAt.{CoreAt, AnswersReply, Replied, RanOn, RunResult, RunsCommands, with_prefix}
 
 -- ---- one event
 
@@ -37,8 +37,8 @@ events_more : (past : List Event) (e : Event) → events past ≡ past → is_no
 unfolding events
 events_more past e all has = ap (λ (b : Bool). cond b (events past) (e ∷ events past)) has ∙ ap (λ (p : List Event). e ∷ p) all
 
-pub stood_more : (config : Config) (old new : Core) (past : List Event) (command : Command) (given : Reply) → Stood config old past → new.config ≡ old.config → is_no_memory given ≡ false
-    → Acts old (as_served command) given new → Stood config new (event config past command ∷ past) × (given ≡ reply_to config past (as_served command))
+pub stood_more : (config : Config) (old new : Core) (past : List Event) (command : Command) (given : Reply) → CoreAt config old past → new.config ≡ old.config → is_no_memory given ≡ false
+    → Acts old (as_served command) given new → CoreAt config new (event config past command ∷ past) × (given ≡ reply_to config past (as_served command))
 stood_more config old new past command given stood same has acts =
     let now = acts past stood.stands in
     let config_is = same ∙ stood.config_is in
@@ -54,11 +54,11 @@ stood_more config old new past command given stood same has acts =
 
 -- ---- one command
 
-goes_in : (n : Numbers) (past : List Event) (e : Event) (es : List Event) → code_of e ≡ None → series_of n past (e ∷ es) ≡ behind (answer_bytes n e) (series_of n (e ∷ past) es)
+goes_in : (n : Numbers) (past : List Event) (e : Event) (es : List Event) → status_code_of e ≡ None → run_of_events n past (e ∷ es) ≡ with_prefix (answer_bytes n e) (run_of_events n (e ∷ past) es)
 unfolding up_to_end first_end with_events
 goes_in n past e es on = rw on (ap (λ (w : List ℕ). record { written = w; ending = first_end es; past = with_events (e ∷ past) (up_to_end es) }) (flat_map-cons (answer_bytes n) e (up_to_end es)))
 
-ends_in : (n : Numbers) (past : List Event) (e : Event) (es : List Event) (code : ℕ) → code_of e ≡ Some code → series_of n past (e ∷ es) ≡ record { written = answer_bytes n e; ending = Some code; past = e ∷ past }
+ends_in : (n : Numbers) (past : List Event) (e : Event) (es : List Event) (code : ℕ) → status_code_of e ≡ Some code → run_of_events n past (e ∷ es) ≡ record { written = answer_bytes n e; ending = Some code; past = e ∷ past }
 unfolding up_to_end first_end with_events
 ends_in n past e es code on = rw on (ap (λ (w : List ℕ). record { written = w; ending = Some code; past = e ∷ past }) (flat_map-cons (answer_bytes n) e [] ∙ append-nil (answer_bytes n e)))
 
@@ -101,32 +101,32 @@ moment_as (Take w t) = refl
 moment_as (Report j v t) = refl
 moment_as Halt = refl
 
-code_as : (config : Config) (past : List Event) (c : Command) (given : Reply) → given ≡ reply_to config past (as_served c) → code_of (event config past c) ≡ code_by (is_operate c) given
+code_as : (config : Config) (past : List Event) (c : Command) (given : Reply) → given ≡ reply_to config past (as_served c) → status_code_of (event config past c) ≡ status_code_by (is_operate c) given
 code_as config past c given is = rw (operate_as c, is) refl
 
-bytes_as : (n : Numbers) (config : Config) (past : List Event) (c : Command) (given : Reply) → given ≡ reply_to config past (as_served c) → answer_bytes n (event config past c) ≡ owed_bytes n (id_of c) (moment_of c) given
+bytes_as : (n : Numbers) (config : Config) (past : List Event) (c : Command) (given : Reply) → given ≡ reply_to config past (as_served c) → answer_bytes n (event config past c) ≡ response_item n (id_of c) (moment_of c) given
 bytes_as n config past c given is = rw (id_as c, moment_as c, is) refl
 
-pub series_goes : (n : Numbers) (config : Config) (past : List Event) (c : Command) (others : List Command) → code_of (event config past c) ≡ None
-    → series n config past (c ∷ others) ≡ behind (answer_bytes n (event config past c)) (series n config (event config past c ∷ past) others)
-unfolding series answered
-series_goes n config past c others on = goes_in n past (event config past c) (answered config (event config past c ∷ past) others) on
+pub run_goes_on : (n : Numbers) (config : Config) (past : List Event) (c : Command) (others : List Command) → status_code_of (event config past c) ≡ None
+    → run_commands n config past (c ∷ others) ≡ with_prefix (answer_bytes n (event config past c)) (run_commands n config (event config past c ∷ past) others)
+unfolding run_commands answered
+run_goes_on n config past c others on = goes_in n past (event config past c) (answered config (event config past c ∷ past) others) on
 
-pub series_ends : (n : Numbers) (config : Config) (past : List Event) (c : Command) (others : List Command) (code : ℕ) → code_of (event config past c) ≡ Some code
-    → series n config past (c ∷ others) ≡ record { written = answer_bytes n (event config past c); ending = Some code; past = event config past c ∷ past }
-unfolding series answered
-series_ends n config past c others code on = ends_in n past (event config past c) (answered config (event config past c ∷ past) others) code on
+pub run_ends : (n : Numbers) (config : Config) (past : List Event) (c : Command) (others : List Command) (code : ℕ) → status_code_of (event config past c) ≡ Some code
+    → run_commands n config past (c ∷ others) ≡ record { written = answer_bytes n (event config past c); ending = Some code; past = event config past c ∷ past }
+unfolding run_commands answered
+run_ends n config past c others code on = ends_in n past (event config past c) (answered config (event config past c ∷ past) others) code on
 
-pub does_one : (n : Numbers) (old new : Core) (c : Command) (given : Reply) (answer : Answered) (before after : List ℕ) → Replied old c given new
-    → IsTold n (is_operate c) (id_of c) (moment_of c) given answer before after → Does n old new (c ∷ []) answer before after
-does_one n old new c given GoesOn before after r told = λ config past stood.
+pub does_one : (n : Numbers) (old new : Core) (c : Command) (given : Reply) (answer : Handled) (before after : List ℕ) → Replied old c given new
+    → AnswersReply n (is_operate c) (id_of c) (moment_of c) given answer before after → RunsCommands n old new (c ∷ []) answer before after
+does_one n old new c given Continue before after r told = λ config past stood.
     let more = stood_more config old new past c given stood r.config told.0 (r.acts told.0) in
     record {
       now = event config past c ∷ past;
       written = answer_bytes n (event config past c);
       stood = more.0;
       few = r.few told.0;
-      goes = λ others. series_goes n config past c others (code_as config past c given more.1 ∙ told.1);
+      goes = λ others. run_goes_on n config past c others (code_as config past c given more.1 ∙ told.1);
       appended = told.2 ∙ ap (λ (x : List ℕ). before ++ x) (sym (bytes_as n config past c given more.1));
     }
 does_one n old new c given (Ends code) before after r told = λ config past stood.
@@ -136,15 +136,15 @@ does_one n old new c given (Ends code) before after r told = λ config past stoo
       written = answer_bytes n (event config past c);
       stood = more.0;
       few = r.few told.0;
-      ends = λ others. series_ends n config past c others code (code_as config past c given more.1 ∙ told.1);
+      ends = λ others. run_ends n config past c others code (code_as config past c given more.1 ∙ told.1);
       appended = told.2 ∙ ap (λ (x : List ℕ). before ++ x) (sym (bytes_as n config past c given more.1));
     }
-does_one n old new c given (Unread place) before after r told = absurd told
-does_one n old new c given NoMemory before after r told = λ config past stood. record { part = []; begins = λ others. ((series n config past (c ∷ others)).written, refl); appended = told ∙ sym (append-nil before) }
+does_one n old new c given (Unreadable place) before after r told = absurd told
+does_one n old new c given NoMemory before after r told = λ config past stood. record { part = []; begins = λ others. ((run_commands n config past (c ∷ others)).written, refl); appended = told ∙ sym (append-nil before) }
 
 -- ---- commands in a row
 
-pub does_none : (n : Numbers) (core : Core) (text : List ℕ) → core.count ≤ 2 ^ 61 → Does n core core [] GoesOn text text
+pub does_none : (n : Numbers) (core : Core) (text : List ℕ) → core.count ≤ 2 ^ 61 → RunsCommands n core core [] Continue text text
 does_none n core text few = λ config past stood. record {
   now = past;
   written = [];
@@ -155,17 +155,17 @@ does_none n core text few = λ config past stood. record {
 }
 
 -- in front of other commands
-went_more : (n : Numbers) (config : Config) (mid new : Core) (past : List Event) (cs ds : List Command) (answer : Answered) (before between after : List ℕ) → Went n config mid past cs before between
-    → Does n mid new ds answer between after → Did n config new past (cs ++ ds) answer before after
-went_more n config mid new past cs ds GoesOn before between after h d =
+went_more : (n : Numbers) (config : Config) (mid new : Core) (past : List Event) (cs ds : List Command) (answer : Handled) (before between after : List ℕ) → RanOn n config mid past cs before between
+    → RunsCommands n mid new ds answer between after → RunResult n config new past (cs ++ ds) answer before after
+went_more n config mid new past cs ds Continue before between after h d =
     let k = d config h.now h.stood in
     record {
       now = k.now;
       written = h.written ++ k.written;
       stood = k.stood;
       few = k.few;
-      goes = λ others. ap (series n config past) (append_assoc cs ds others) ∙ h.goes (ds ++ others) ∙ ap (behind h.written) (k.goes others)
-          ∙ ap (λ (w : List ℕ). record { written = w; ending = (series n config k.now others).ending; past = (series n config k.now others).past }) (sym (append_assoc h.written k.written (series n config k.now others).written));
+      goes = λ others. ap (run_commands n config past) (append_assoc cs ds others) ∙ h.goes (ds ++ others) ∙ ap (with_prefix h.written) (k.goes others)
+          ∙ ap (λ (w : List ℕ). record { written = w; ending = (run_commands n config k.now others).ending; past = (run_commands n config k.now others).past }) (sym (append_assoc h.written k.written (run_commands n config k.now others).written));
       appended = k.appended ∙ ap (λ (x : List ℕ). x ++ k.written) h.appended ∙ append_assoc before h.written k.written;
     }
 went_more n config mid new past cs ds (Ends code) before between after h d =
@@ -175,57 +175,57 @@ went_more n config mid new past cs ds (Ends code) before between after h d =
       written = h.written ++ k.written;
       stood = k.stood;
       few = k.few;
-      ends = λ others. ap (series n config past) (append_assoc cs ds others) ∙ h.goes (ds ++ others) ∙ ap (behind h.written) (k.ends others);
+      ends = λ others. ap (run_commands n config past) (append_assoc cs ds others) ∙ h.goes (ds ++ others) ∙ ap (with_prefix h.written) (k.ends others);
       appended = k.appended ∙ ap (λ (x : List ℕ). x ++ k.written) h.appended ∙ append_assoc before h.written k.written;
     }
-went_more n config mid new past cs ds (Unread place) before between after h d = absurd (d config h.now h.stood)
+went_more n config mid new past cs ds (Unreadable place) before between after h d = absurd (d config h.now h.stood)
 went_more n config mid new past cs ds NoMemory before between after h d =
     let k = d config h.now h.stood in
     record {
       part = h.written ++ k.part;
       begins = λ others.
           let b = k.begins others in
-          (b.0, ap (λ (s : Series). s.written) (ap (series n config past) (append_assoc cs ds others) ∙ h.goes (ds ++ others)) ∙ ap (λ (x : List ℕ). h.written ++ x) b.1 ∙ sym (append_assoc h.written k.part b.0));
+          (b.0, ap (λ (s : CommandRun). s.written) (ap (run_commands n config past) (append_assoc cs ds others) ∙ h.goes (ds ++ others)) ∙ ap (λ (x : List ℕ). h.written ++ x) b.1 ∙ sym (append_assoc h.written k.part b.0));
       appended = k.appended ∙ ap (λ (x : List ℕ). x ++ k.part) h.appended ∙ append_assoc before h.written k.part;
     }
 
-pub does_more : (n : Numbers) (old mid new : Core) (cs ds : List Command) (answer : Answered) (before between after : List ℕ) → Does n old mid cs GoesOn before between → Does n mid new ds answer between after
-    → Does n old new (cs ++ ds) answer before after
+pub does_more : (n : Numbers) (old mid new : Core) (cs ds : List Command) (answer : Handled) (before between after : List ℕ) → RunsCommands n old mid cs Continue before between → RunsCommands n mid new ds answer between after
+    → RunsCommands n old new (cs ++ ds) answer before after
 does_more n old mid new cs ds answer before between after first second = λ config past stood. went_more n config mid new past cs ds answer before between after (first config past stood) second
 
 -- and where those aren't done
-abbrev pub is_going : Answered → Bool
-is_going GoesOn = true
+abbrev pub is_going : Handled → Bool
+is_going Continue = true
 is_going _ = false
 
-did_all : (n : Numbers) (config : Config) (new : Core) (past : List Event) (cs ds : List Command) (answer : Answered) (before after : List ℕ) → is_going answer ≡ false → Did n config new past cs answer before after → Did n config new past (cs ++ ds) answer before after
-did_all n config new past cs ds GoesOn before after stops h = absurd cc
+did_all : (n : Numbers) (config : Config) (new : Core) (past : List Event) (cs ds : List Command) (answer : Handled) (before after : List ℕ) → is_going answer ≡ false → RunResult n config new past cs answer before after → RunResult n config new past (cs ++ ds) answer before after
+did_all n config new past cs ds Continue before after stops h = absurd cc
 did_all n config new past cs ds (Ends code) before after stops h = record {
   now = h.now;
   written = h.written;
   stood = h.stood;
   few = h.few;
-  ends = λ others. ap (series n config past) (append_assoc cs ds others) ∙ h.ends (ds ++ others);
+  ends = λ others. ap (run_commands n config past) (append_assoc cs ds others) ∙ h.ends (ds ++ others);
   appended = h.appended;
 }
-did_all n config new past cs ds (Unread place) before after stops h = absurd h
+did_all n config new past cs ds (Unreadable place) before after stops h = absurd h
 did_all n config new past cs ds NoMemory before after stops h = record {
   part = h.part;
-  begins = λ others. let b = h.begins (ds ++ others) in (b.0, ap (λ (s : Series). s.written) (ap (series n config past) (append_assoc cs ds others)) ∙ b.1);
+  begins = λ others. let b = h.begins (ds ++ others) in (b.0, ap (λ (s : CommandRun). s.written) (ap (run_commands n config past) (append_assoc cs ds others)) ∙ b.1);
   appended = h.appended;
 }
 
-pub does_all : (n : Numbers) (old new : Core) (cs ds : List Command) (answer : Answered) (before after : List ℕ) → is_going answer ≡ false → Does n old new cs answer before after → Does n old new (cs ++ ds) answer before after
+pub does_all : (n : Numbers) (old new : Core) (cs ds : List Command) (answer : Handled) (before after : List ℕ) → is_going answer ≡ false → RunsCommands n old new cs answer before after → RunsCommands n old new (cs ++ ds) answer before after
 does_all n old new cs ds answer before after stops first = λ config past stood. did_all n config new past cs ds answer before after stops (first config past stood)
 
 -- a table that stood for a history stands for another behind it
-pub stands_on : (n : Numbers) (old new : Core) (cs : List Command) (before after : List ℕ) → Does n old new cs GoesOn before after → (config : Config) × (past : List Event) × Stood config old past
-    → (config : Config) × (past : List Event) × Stood config new past
+pub stands_on : (n : Numbers) (old new : Core) (cs : List Command) (before after : List ℕ) → RunsCommands n old new cs Continue before after → (config : Config) × (past : List Event) × CoreAt config old past
+    → (config : Config) × (past : List Event) × CoreAt config new past
 stands_on n old new cs before after d h = (h.0, (d h.0 h.1 h.2).now, (d h.0 h.1 h.2).stood)
 
 -- ---- the session begins and leaves
 
-pub begins : (config : Config) (old new : Core) (given : Reply) → StandsFor old [] → old.config ≡ config → Acts old Begin given new → new.config ≡ old.config → is_no_memory given ≡ false → Stood config new (event config [] Begin ∷ [])
+pub begins : (config : Config) (old new : Core) (given : Reply) → StandsFor old [] → old.config ≡ config → Acts old Begin given new → new.config ≡ old.config → is_no_memory given ≡ false → CoreAt config new (event config [] Begin ∷ [])
 unfolding events
 begins config old new given stands same acts kept has = (stood_more config old new [] Begin given (record { stands = stands; all = refl; config_is = same }) kept has acts).0
 
@@ -238,7 +238,7 @@ lack_not config past given (inl e) = ap is_no_memory e ∙ leave_in (is_gone pas
     leave_in false = refl
 lack_not config past given (inr e) = let both : false ≡ true = e.1 in absurd cc
 
-pub leaves : (config : Config) (old new : Core) (past : List Event) (given : Reply) → Stood config old past → Acts old (Leave 0) given new → new.config ≡ old.config → Stood config new (event config past (Leave 0) ∷ past)
+pub leaves : (config : Config) (old new : Core) (past : List Event) (given : Reply) → CoreAt config old past → Acts old (Leave 0) given new → new.config ≡ old.config → CoreAt config new (event config past (Leave 0) ∷ past)
 leaves config old new past given stood acts kept =
     let legal : IsAnswer new.config (events past) (record { command = Leave 0; reply = given }) = (acts past stood.stands).legal.0 in
     (stood_more config old new past (Leave 0) given stood kept (lack_not new.config (events past) given legal) acts).0
@@ -248,7 +248,7 @@ leaves config old new past given stood acts kept =
 -- the first of them are done, and the others are to come
 pub record DoneSoFar (n : Numbers) (old now : Core) (all coming : List Command) (before after : List ℕ) : Type 0 where
   pub done : List Command
-  pub does : Does n old now done GoesOn before after
+  pub does : RunsCommands n old now done Continue before after
   pub parts : all ≡ done ++ coming
 
 pub none_done : (n : Numbers) (core : Core) (all coming : List Command) (text : List ℕ) → core.count ≤ 2 ^ 61 → coming ≡ all → DoneSoFar n core core all coming text text
@@ -256,25 +256,25 @@ none_done n core all coming text few is = record { done = []; does = does_none n
 
 -- one more
 pub one_done : (n : Numbers) (old mid new : Core) (all coming others : List Command) (c : Command) (before between after : List ℕ) → DoneSoFar n old mid all coming before between → coming ≡ c ∷ others
-    → Does n mid new (c ∷ []) GoesOn between after → DoneSoFar n old new all others before after
+    → RunsCommands n mid new (c ∷ []) Continue between after → DoneSoFar n old new all others before after
 one_done n old mid new all coming others c before between after h first d = record {
   done = h.done ++ c ∷ [];
-  does = does_more n old mid new h.done (c ∷ []) GoesOn before between after h.does d;
+  does = does_more n old mid new h.done (c ∷ []) Continue before between after h.does d;
   parts = h.parts ∙ ap (λ (x : List Command). h.done ++ x) first ∙ sym (append_assoc h.done (c ∷ []) others);
 }
 
 -- the next ends them
-pub next_ends : (n : Numbers) (old mid new : Core) (all coming others : List Command) (c : Command) (answer : Answered) (before between after : List ℕ) → is_going answer ≡ false → DoneSoFar n old mid all coming before between
-    → coming ≡ c ∷ others → Does n mid new (c ∷ []) answer between after → Does n old new all answer before after
+pub next_ends : (n : Numbers) (old mid new : Core) (all coming others : List Command) (c : Command) (answer : Handled) (before between after : List ℕ) → is_going answer ≡ false → DoneSoFar n old mid all coming before between
+    → coming ≡ c ∷ others → RunsCommands n mid new (c ∷ []) answer between after → RunsCommands n old new all answer before after
 next_ends n old mid new all coming others c answer before between after stops h first d =
     let shape : all ≡ (h.done ++ c ∷ []) ++ others = h.parts ∙ ap (λ (x : List Command). h.done ++ x) first ∙ sym (append_assoc h.done (c ∷ []) others) in
     rw shape (does_all n old new (h.done ++ c ∷ []) others answer before after stops (does_more n old mid new h.done (c ∷ []) answer before between after h.does d))
 
-pub all_done : (n : Numbers) (old new : Core) (all coming : List Command) (before after : List ℕ) → DoneSoFar n old new all coming before after → coming ≡ [] → Does n old new all GoesOn before after
+pub all_done : (n : Numbers) (old new : Core) (all coming : List Command) (before after : List ℕ) → DoneSoFar n old new all coming before after → coming ≡ [] → RunsCommands n old new all Continue before after
 all_done n old new all coming before after h none =
     let shape : all ≡ h.done = h.parts ∙ ap (λ (x : List Command). h.done ++ x) none ∙ append-nil h.done in
     rw shape h.does
 
-pub still_stands : (n : Numbers) (old new : Core) (all coming : List Command) (before after : List ℕ) → DoneSoFar n old new all coming before after → (config : Config) × (past : List Event) × Stood config old past
-    → (config : Config) × (past : List Event) × Stood config new past
+pub still_stands : (n : Numbers) (old new : Core) (all coming : List Command) (before after : List ℕ) → DoneSoFar n old new all coming before after → (config : Config) × (past : List Event) × CoreAt config old past
+    → (config : Config) × (past : List Event) × CoreAt config new past
 still_stands n old new all coming before after h stood = stands_on n old new h.done before after h.does stood

@@ -13,8 +13,8 @@ use Rattle.table_model.specs.declared.reply.Reply.{Reply}
 use Rattle.table_model.specs.Event.{Event}
 use Rattle.table_model.specs.Reply.{reply_to}
 use Rattle.rib_core.specs.Built.{as_served}
-use Rattle.session_engine.specs.Answers.{owed}
-use Rattle.session_engine.specs.Ends.{end_by}
+use Rattle.call_answers.specs.Answers.{response_for}
+use Rattle.call_answers.specs.Ends.{status_by}
 
 -- ---- events
 
@@ -39,21 +39,21 @@ is_operate (Operate session operation now) = true
 is_operate _ = false
 
 -- the status number that a reply ends the stream with, if it does
-abbrev pub code_by : Bool → Reply → Option ℕ
-code_by operate reply = option_map (λ ending. ending.code) (end_by operate reply)
+abbrev pub status_code_by : Bool → Reply → Option ℕ
+status_code_by operate reply = option_map (λ ending. ending.code) (status_by operate reply)
 
-abbrev pub code_of : Event → Option ℕ
-code_of e = code_by (is_operate e.command) e.reply
+abbrev pub status_code_of : Event → Option ℕ
+status_code_of e = status_code_by (is_operate e.command) e.reply
 
 -- the events up to and including the first that ends the stream
 unfoldable pub up_to_end : List Event → List Event
 up_to_end [] = []
-up_to_end (e ∷ es) = e ∷ (if is_some (code_of e) then [] else up_to_end es)
+up_to_end (e ∷ es) = e ∷ (if is_some (status_code_of e) then [] else up_to_end es)
 
 -- and its status number
 unfoldable pub first_end : List Event → Option ℕ
 first_end [] = None
-first_end (e ∷ es) = option_or (code_of e) (first_end es)
+first_end (e ∷ es) = option_or (status_code_of e) (first_end es)
 
 -- ---- answers
 
@@ -67,24 +67,24 @@ moment_of (Operate session operation now) = now
 moment_of _ = pos 0
 
 -- the answer that is owed for a reply, as it stands in the output
-unfoldable pub owed_bytes : Numbers → ℕ → ℤ → Reply → List ℕ
-owed_bytes n id now reply = option_map_or (λ r. item (response_bytes n r)) (owed n id now reply) []
+unfoldable pub response_item : Numbers → ℕ → ℤ → Reply → List ℕ
+response_item n id now reply = option_map_or (λ r. item (response_bytes n r)) (response_for n id now reply) []
 
 abbrev pub answer_bytes : Numbers → Event → List ℕ
-answer_bytes n e = owed_bytes n (id_of e.command) (moment_of e.command) e.reply
+answer_bytes n e = response_item n (id_of e.command) (moment_of e.command) e.reply
 
 -- ---- commands in a row
 
 -- the answers, the status number of the reply that ends the stream, if one does, and the history behind it
-pub record Series : Type 0 where
+pub record CommandRun : Type 0 where
   pub written : List ℕ
   pub ending : Option ℕ
   pub past : List Event
 
 -- of events
-abbrev pub series_of : Numbers → List Event → List Event → Series
-series_of n past es = record { written = flat_map (answer_bytes n) (up_to_end es); ending = first_end es; past = with_events past (up_to_end es) }
+abbrev pub run_of_events : Numbers → List Event → List Event → CommandRun
+run_of_events n past es = record { written = flat_map (answer_bytes n) (up_to_end es); ending = first_end es; past = with_events past (up_to_end es) }
 
 -- of commands after a history: those behind the reply that ends the stream aren't done
-unfoldable pub series : Numbers → Config → List Event → List Command → Series
-series n config past cs = series_of n past (answered config past cs)
+unfoldable pub run_commands : Numbers → Config → List Event → List Command → CommandRun
+run_commands n config past cs = run_of_events n past (answered config past cs)

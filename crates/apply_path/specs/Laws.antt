@@ -3,34 +3,34 @@ use Rattle.std.specs.Prelude.{ℕ, ◌+◌, Bool, true, false, List, [], ◌∷�
 use Rattle.std.specs.Option.{option_map, option_or}
 use Rattle.proto_schema.specs.declared.legal.MessageFault.{MessageFault}
 use Rattle.proto_schema.specs.declared.legal.MessageFault.TheVariants.{Wire, Utf8}
-use Rattle.message_run.specs.Answering.{Ending, Reply, Field}
-use Rattle.session_engine.specs.declared.orders.Setting.{Setting}
+use Rattle.message_run.specs.Behaviour.{Ending, Reply, Field}
+use Rattle.call_answers.specs.declared.orders.Setting.{Setting}
 use Rattle.table_model.specs.declared.command.Command.{Command}
 use Rattle.table_model.specs.Event.{Event}
 use Rattle.apply_path.specs.History.{answered}
-use Rattle.apply_path.specs.Fates.{config_of, fault_of, commands_at, begun}
+use Rattle.apply_path.specs.Responses.{config_of, fault_of, commands_at, begun}
 
 -- A field of the message can't be read. No first fault is NoMemory.
-abbrev pub is_unread : Option MessageFault → Bool
-is_unread (Some (Wire place found)) = true
-is_unread (Some (Utf8 place)) = true
-is_unread _ = false
+abbrev pub is_unreadable : Option MessageFault → Bool
+is_unreadable (Some (Wire place found)) = true
+is_unreadable (Some (Utf8 place)) = true
+is_unreadable _ = false
 
 -- the messages before the first that can't be read
 unfoldable pub readable : Setting → List (List ℕ) → List (List ℕ)
 readable s [] = []
-readable s (m ∷ ms) = if is_unread (fault_of s m) then [] else m ∷ readable s ms
+readable s (m ∷ ms) = if is_unreadable (fault_of s m) then [] else m ∷ readable s ms
 
 -- where the field stands that can't be read
-abbrev pub unread_place : Option MessageFault → Option ℕ
-unread_place (Some (Wire place found)) = Some place
-unread_place (Some (Utf8 place)) = Some place
-unread_place _ = None
+abbrev pub unreadable_place : Option MessageFault → Option ℕ
+unreadable_place (Some (Wire place found)) = Some place
+unreadable_place (Some (Utf8 place)) = Some place
+unreadable_place _ = None
 
 -- the place of the field, in the first message that can't be read
-unfoldable pub first_unread : Setting → List (List ℕ) → Option ℕ
-first_unread s [] = None
-first_unread s (m ∷ ms) = option_or (unread_place (fault_of s m)) (first_unread s ms)
+unfoldable pub first_unreadable : Setting → List (List ℕ) → Option ℕ
+first_unreadable s [] = None
+first_unreadable s (m ∷ ms) = option_or (unreadable_place (fault_of s m)) (first_unreadable s ms)
 
 -- a stream ends by the first reply that ends it, and else where a message can't be read
 abbrev pub ending_by : Option ℕ → Option ℕ → Option Ending

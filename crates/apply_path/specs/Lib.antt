@@ -1,5 +1,5 @@
 pub mod History
-pub mod Fates
-pub mod Serves
+pub mod Responses
+pub mod SessionAt
 pub mod Applied
 pub mod Laws

@@ -4,9 +4,9 @@ ghost use Rattle.message_run.specs.Runs.{IsStatus, told};
 ghost use Rattle.apply_path.specs.Applied.{Applies, AppliesOver};
 
 use crate::session::Session;
+use call_answers::Setting;
 use message_run::run;
 use rig_io::{Sink, Source};
-use session_engine::Setting;
 use std::alloc::Global;
 
 /// Reads a stream of ModifyRequests, and writes their answers. Behind a reply that ends the stream, and where the input can't be

@@ -1,11 +1,11 @@
 ghost use Rattle.std.specs.Prelude.{◌≡◌, ℕ, List, [], None};
 ghost use Rattle.std.specs.List.{flat_map};
-ghost use Rattle.session_engine.specs.declared.orders.Setting.{Setting};
+ghost use Rattle.call_answers.specs.declared.orders.Setting.{Setting};
 ghost use Rattle.table_model.specs.Legal.{IsLawful};
-ghost use Rattle.message_run.specs.Answering.{course_from};
+ghost use Rattle.message_run.specs.Behaviour.{trace_from};
 ghost use Rattle.apply_path.specs.History.{answer_bytes, with_events, up_to_end, first_end};
-ghost use Rattle.apply_path.specs.Fates.{apply_answering, config_of, begun, history};
-ghost use Rattle.apply_path.specs.Laws.{events_of, readable, first_unread, ending_by};
+ghost use Rattle.apply_path.specs.Responses.{apply_behaviour, config_of, begun, history};
+ghost use Rattle.apply_path.specs.Laws.{events_of, readable, first_unreadable, ending_by};
 
 use aft_entries::checked_entries_fit;
 
@@ -13,15 +13,15 @@ use aft_entries::checked_entries_fit;
 /// reply that ends the stream, and of the messages before the first that can't be read. Where no reply ends the stream, they are
 /// those of the whole history, and all those messages are done. The stream ends by that reply, and else at the field that can't be
 /// read of the first message that has one.
-pub fn answers_are_the_servers()
+pub fn answers_match_the_server()
     ensures answers { (s : Setting) (messages : List (List ℕ)) →
-        (course_from (apply_answering s) [] messages).written ≡ flat_map (answer_bytes s.numbering) (up_to_end (events_of s messages)) }
+        (trace_from (apply_behaviour s) [] messages).written ≡ flat_map (answer_bytes s.numbering) (up_to_end (events_of s messages)) }
     ensures whole { (s : Setting) (messages : List (List ℕ)) → first_end (events_of s messages) ≡ None →
-        (course_from (apply_answering s) [] messages).written ≡ flat_map (answer_bytes s.numbering) (events_of s messages) }
+        (trace_from (apply_behaviour s) [] messages).written ≡ flat_map (answer_bytes s.numbering) (events_of s messages) }
     ensures ends { (s : Setting) (messages : List (List ℕ)) →
-        (course_from (apply_answering s) [] messages).ending ≡ ending_by (first_end (events_of s messages)) (first_unread s messages) }
+        (trace_from (apply_behaviour s) [] messages).ending ≡ ending_by (first_end (events_of s messages)) (first_unreadable s messages) }
     ensures done { (s : Setting) (messages : List (List ℕ)) → first_end (events_of s messages) ≡ None →
-        (course_from (apply_answering s) [] messages).done ≡ readable s messages }
+        (trace_from (apply_behaviour s) [] messages).done ≡ readable s messages }
 {}
 
 /// The history of messages is lawful, and so is that of the events whose answers are written: each reply in it is the one-thread

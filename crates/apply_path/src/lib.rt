@@ -7,6 +7,6 @@ mod session;
 mod step;
 
 pub use apply::apply_stream;
-pub use laws::{answers_are_the_servers, histories_are_lawful};
-pub use message_run::put_all;
+pub use laws::{answers_match_the_server, histories_are_lawful};
+pub use message_run::write_all;
 pub use session::Session;

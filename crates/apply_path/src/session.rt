@@ -1,16 +1,16 @@
 ghost use Rattle.std.specs.Prelude.{◌≡◌, ◌+◌, ◌<◌, ◌≤◌, ◌^◌, ◌++◌, ◌∷◌, [], ℕ, List, length, map, pos, IfOk};
 ghost use Rattle.std.specs.Option.{option_map_or};
 ghost use Rattle.table_model.specs.Event.{Event, is_no_memory};
-ghost use Rattle.session_engine.specs.Orders.{commands_of, operation_at, orders_of};
-ghost use Rattle.apply_path.specs.Fates.{config_of};
-ghost use Rattle.apply_path.specs.Serves.{Stood, Does, Unreads, Begun};
+ghost use Rattle.call_answers.specs.Orders.{commands_of, operation_at, orders_of};
+ghost use Rattle.apply_path.specs.Responses.{config_of};
+ghost use Rattle.apply_path.specs.SessionAt.{CoreAt, RunsCommands, HandlesFault, Begun};
 
-use crate::step::{do_command, operate, tell_operation};
-use message_run::{Answered, Answerer};
+use crate::step::{answer_operation, do_command, operate};
+use call_answers::{Setting, operations_in, read_header, read_operation};
+use message_run::{Handled, MessageHandler};
 use proto_schema::{MessageFault, MessageKind, first_fault};
 use rib_core::RibCore;
 use schema_numbers::Numbering;
-use session_engine::{Setting, operations_in, read_asks, read_operation};
 use std::alloc::{AllocError, Global};
 use table_model::{AskedParams, Command, Config, Operation, Reply};
 
@@ -22,13 +22,13 @@ fn do_params(
     asked: Option<AskedParams>,
     message: &mut Vec<u8>,
     out: &mut Vec<u8>,
-) -> Answered
-    requires stood { (config : Config) × (past : List Event) × Stood config core.old past }
+) -> Handled
+    requires stood { (config : Config) × (past : List Event) × CoreAt config core.old past }
     requires few { core.old.count ≤ 2 ^ 61 }
-    ensures { Does n.now core.old core.new (option_map_or (λ asked. Command.SetParams 0 asked ∷ []) asked []) result out.old.items out.new.items }
+    ensures { RunsCommands n.now core.old core.new (option_map_or (λ asked. Command.SetParams 0 asked ∷ []) asked []) result out.old.items out.new.items }
 {
     match asked {
-        None => Answered::GoesOn,
+        None => Handled::Continue,
         Some(asked) => {
             let command = Command::SetParams(0, asked);
             do_command(alloc, n, core, command, false, 0, 0, message, out)
@@ -44,13 +44,13 @@ fn do_election(
     election: Option<u128>,
     message: &mut Vec<u8>,
     out: &mut Vec<u8>,
-) -> Answered
-    requires stood { (config : Config) × (past : List Event) × Stood config core.old past }
+) -> Handled
+    requires stood { (config : Config) × (past : List Event) × CoreAt config core.old past }
     requires few { core.old.count ≤ 2 ^ 61 }
-    ensures { Does n.now core.old core.new (option_map_or (λ id. Command.Announce 0 id ∷ []) election []) result out.old.items out.new.items }
+    ensures { RunsCommands n.now core.old core.new (option_map_or (λ id. Command.Announce 0 id ∷ []) election []) result out.old.items out.new.items }
 {
     match election {
-        None => Answered::GoesOn,
+        None => Handled::Continue,
         Some(id) => {
             let command = Command::Announce(0, id);
             do_command(alloc, n, core, command, false, 0, 0, message, out)
@@ -67,15 +67,15 @@ fn do_operation(
     number: u64,
     message: &mut Vec<u8>,
     out: &mut Vec<u8>,
-) -> Answered
+) -> Handled
     requires number { number < 2 ^ 62 }
-    requires stood { (config : Config) × (past : List Event) × Stood config core.old past }
-    ensures { Does n.now core.old core.new (Command.Operate 0 operation (pos number) ∷ []) result out.old.items out.new.items }
+    requires stood { (config : Config) × (past : List Event) × CoreAt config core.old past }
+    ensures { RunsCommands n.now core.old core.new (Command.Operate 0 operation (pos number) ∷ []) result out.old.items out.new.items }
 {
     let id = operation.id;
     let now = number as i64;
     let end = operate(core, operation, now);
-    tell_operation(alloc, n, id, now, end, message, out)
+    answer_operation(alloc, n, id, now, end, message, out)
 }
 
 // Reads an operation, and does it.
@@ -88,13 +88,13 @@ fn do_piece(
     number: u64,
     message: &mut Vec<u8>,
     out: &mut Vec<u8>,
-) -> Answered
+) -> Handled
     requires number { number < 2 ^ 62 }
-    requires stood { (config : Config) × (past : List Event) × Stood config core.old past }
-    ensures { Does setting.now.numbering core.old core.new (Command.Operate 0 (operation_at setting.now piece.now) (pos number) ∷ []) result out.old.items out.new.items }
+    requires stood { (config : Config) × (past : List Event) × CoreAt config core.old past }
+    ensures { RunsCommands setting.now.numbering core.old core.new (Command.Operate 0 (operation_at setting.now piece.now) (pos number) ∷ []) result out.old.items out.new.items }
 {
     match read_operation(alloc, setting, piece) {
-        Err(_) => Answered::NoMemory,
+        Err(_) => Handled::NoMemory,
         Ok(operation) => do_operation(
             alloc,
             &setting.numbering,
@@ -116,26 +116,26 @@ fn do_operations(
     number: u64,
     message: &mut Vec<u8>,
     out: &mut Vec<u8>,
-) -> Answered
+) -> Handled
     requires number { number < 2 ^ 62 }
-    requires stood { (config : Config) × (past : List Event) × Stood config core.old past }
+    requires stood { (config : Config) × (past : List Event) × CoreAt config core.old past }
     requires few { core.old.count ≤ 2 ^ 61 }
-    ensures { Does setting.now.numbering core.old core.new (map (λ operation. Command.Operate 0 operation (pos number)) (orders_of setting.now request.now).operations) result out.old.items out.new.items }
+    ensures { RunsCommands setting.now.numbering core.old core.new (map (λ operation. Command.Operate 0 operation (pos number)) (orders_of setting.now request.now).operations) result out.old.items out.new.items }
 {
     let mut pieces = operations_in(setting, request);
     while let Some(piece) = pieces.next() {
         match do_piece(alloc, setting, core, piece, number, message, out) {
-            Answered::GoesOn => {}
-            Answered::Ends(code) => return Answered::Ends(code),
-            Answered::Unread(place) => return Answered::Unread(place),
-            Answered::NoMemory => return Answered::NoMemory,
+            Handled::Continue => {}
+            Handled::Ends(code) => return Handled::Ends(code),
+            Handled::Unreadable(place) => return Handled::Unreadable(place),
+            Handled::NoMemory => return Handled::NoMemory,
         }
     }
-    Answered::GoesOn
+    Handled::Continue
 }
 
 // Sets the parameters, and announces the election id.
-fn do_first(
+fn do_params_and_election(
     alloc: Global,
     n: &Numbering,
     core: &mut RibCore,
@@ -143,35 +143,35 @@ fn do_first(
     election: Option<u128>,
     message: &mut Vec<u8>,
     out: &mut Vec<u8>,
-) -> Answered
-    requires stood { (config : Config) × (past : List Event) × Stood config core.old past }
+) -> Handled
+    requires stood { (config : Config) × (past : List Event) × CoreAt config core.old past }
     requires few { core.old.count ≤ 2 ^ 61 }
-    ensures { Does n.now core.old core.new (option_map_or (λ asked. Command.SetParams 0 asked ∷ []) params [] ++ option_map_or (λ id. Command.Announce 0 id ∷ []) election []) result out.old.items out.new.items }
+    ensures { RunsCommands n.now core.old core.new (option_map_or (λ asked. Command.SetParams 0 asked ∷ []) params [] ++ option_map_or (λ id. Command.Announce 0 id ∷ []) election []) result out.old.items out.new.items }
 {
     match do_params(alloc, n, core, params, message, out) {
-        Answered::GoesOn => do_election(alloc, n, core, election, message, out),
-        Answered::Ends(code) => Answered::Ends(code),
-        Answered::Unread(place) => Answered::Unread(place),
-        Answered::NoMemory => Answered::NoMemory,
+        Handled::Continue => do_election(alloc, n, core, election, message, out),
+        Handled::Ends(code) => Handled::Ends(code),
+        Handled::Unreadable(place) => Handled::Unreadable(place),
+        Handled::NoMemory => Handled::NoMemory,
     }
 }
 
 // The same of a request.
-fn do_asks(
+fn do_header(
     alloc: Global,
     setting: &Setting,
     core: &mut RibCore,
     request: &[u8],
     message: &mut Vec<u8>,
     out: &mut Vec<u8>,
-) -> Answered
-    requires stood { (config : Config) × (past : List Event) × Stood config core.old past }
+) -> Handled
+    requires stood { (config : Config) × (past : List Event) × CoreAt config core.old past }
     requires few { core.old.count ≤ 2 ^ 61 }
-    ensures { Does setting.now.numbering core.old core.new (option_map_or (λ asked. Command.SetParams 0 asked ∷ []) (orders_of setting.now request.now).params [] ++ option_map_or (λ id. Command.Announce 0 id ∷ []) (orders_of setting.now request.now).election []) result out.old.items out.new.items }
+    ensures { RunsCommands setting.now.numbering core.old core.new (option_map_or (λ asked. Command.SetParams 0 asked ∷ []) (orders_of setting.now request.now).params [] ++ option_map_or (λ id. Command.Announce 0 id ∷ []) (orders_of setting.now request.now).election []) result out.old.items out.new.items }
 {
-    match read_asks(alloc, setting, request) {
-        Err(_) => Answered::NoMemory,
-        Ok((params, election)) => do_first(
+    match read_header(alloc, setting, request) {
+        Err(_) => Handled::NoMemory,
+        Ok((params, election)) => do_params_and_election(
             alloc,
             &setting.numbering,
             core,
@@ -192,28 +192,28 @@ fn do_request(
     number: u64,
     message: &mut Vec<u8>,
     out: &mut Vec<u8>,
-) -> Answered
+) -> Handled
     requires number { number < 2 ^ 62 }
-    requires stood { (config : Config) × (past : List Event) × Stood config core.old past }
+    requires stood { (config : Config) × (past : List Event) × CoreAt config core.old past }
     requires few { core.old.count ≤ 2 ^ 61 }
-    ensures { Does setting.now.numbering core.old core.new (commands_of 0 (pos number) (orders_of setting.now request.now)) result out.old.items out.new.items }
+    ensures { RunsCommands setting.now.numbering core.old core.new (commands_of 0 (pos number) (orders_of setting.now request.now)) result out.old.items out.new.items }
 {
-    match do_asks(alloc, setting, core, request, message, out) {
-        Answered::GoesOn => do_operations(alloc, setting, core, request, number, message, out),
-        Answered::Ends(code) => Answered::Ends(code),
-        Answered::Unread(place) => Answered::Unread(place),
-        Answered::NoMemory => Answered::NoMemory,
+    match do_header(alloc, setting, core, request, message, out) {
+        Handled::Continue => do_operations(alloc, setting, core, request, number, message, out),
+        Handled::Ends(code) => Handled::Ends(code),
+        Handled::Unreadable(place) => Handled::Unreadable(place),
+        Handled::NoMemory => Handled::NoMemory,
     }
 }
 
 // What a message comes to that can't be read.
-fn unread(fault: MessageFault) -> Answered
-    ensures { Unreads fault result }
+fn unreadable(fault: MessageFault) -> Handled
+    ensures { HandlesFault fault result }
 {
     match fault {
-        MessageFault::Wire(place, _) => Answered::Unread(place),
-        MessageFault::Utf8(place) => Answered::Unread(place),
-        MessageFault::NoMemory => Answered::NoMemory,
+        MessageFault::Wire(place, _) => Handled::Unreadable(place),
+        MessageFault::Utf8(place) => Handled::Unreadable(place),
+        MessageFault::NoMemory => Handled::NoMemory,
     }
 }
 
@@ -228,13 +228,13 @@ fn begun(alloc: Global, instances: u16) -> Result<RibCore, AllocError>
         limit: 1_000_000,
     };
     let mut core = RibCore::new(alloc, config)?;
-    if is_lack(core.act(Command::Begin)) {
+    if is_out_of_memory(core.act(Command::Begin)) {
         return Err(AllocError);
     }
     Ok(core)
 }
 
-fn is_lack(reply: Reply) -> bool
+fn is_out_of_memory(reply: Reply) -> bool
     ensures { result ≡ is_no_memory reply }
 {
     match reply {
@@ -255,12 +255,12 @@ pub struct Session<'a> {
 
 impl<'a> Session<'a> {
     ghost use Rattle.std.specs.Prelude.{[]};
-    ghost use Rattle.apply_path.specs.Serves.{Serves};
+    ghost use Rattle.apply_path.specs.SessionAt.{SessionAt};
 
     /// A session that has begun, before any message.
     pub fn new(alloc: Global, setting: &'a Setting) -> Result<Session<'a>, AllocError>
         ensures setting { IfOk result (λ session. session.setting.now ≡ setting.now) }
-        ensures begun { IfOk result (λ session. Serves setting.now session.core session.count []) }
+        ensures begun { IfOk result (λ session. SessionAt setting.now session.core session.count []) }
     {
         let core = begun(alloc, setting.instances.count())?;
         Ok(Session {
@@ -273,20 +273,20 @@ impl<'a> Session<'a> {
     }
 }
 
-impl<'a> Answerer for Session<'a> {
-    ghost use Rattle.apply_path.specs.Fates.{apply_answering};
-    ghost use Rattle.apply_path.specs.Serves.{Serves, HasLeft};
+impl<'a> MessageHandler for Session<'a> {
+    ghost use Rattle.apply_path.specs.Responses.{apply_behaviour};
+    ghost use Rattle.apply_path.specs.SessionAt.{SessionAt, HasLeft};
 
-    ghost fate = { λ s. apply_answering s.setting.now };
+    ghost response = { λ s. apply_behaviour s.setting.now };
 
-    ghost stands = { λ s done. Serves s.setting.now s.core s.count done };
+    ghost stands = { λ s done. SessionAt s.setting.now s.core s.count done };
 
     ghost left = { λ s done. HasLeft s.setting.now s.core done };
 
-    fn answer(&mut self, message: &[u8], out: &mut Vec<u8>) -> Answered {
+    fn handle(&mut self, message: &[u8], out: &mut Vec<u8>) -> Handled {
         let setting = self.setting;
         match first_fault(&setting.numbering, MessageKind::ModifyRequest, message) {
-            Some(fault) => unread(fault),
+            Some(fault) => unreadable(fault),
             None => {
                 self.count += 1;
                 do_request(
@@ -304,6 +304,6 @@ impl<'a> Answerer for Session<'a> {
 
     fn leave(&mut self) {
         let reply = self.core.act(Command::Leave(0));
-        let _ = is_lack(reply);
+        let _ = is_out_of_memory(reply);
     }
 }

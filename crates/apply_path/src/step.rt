@@ -5,19 +5,19 @@ ghost use Rattle.rib_core.specs.Ends.{end_reply};
 ghost use Rattle.table_model.specs.Reply.{operate_reply};
 ghost use Rattle.table_model.specs.Event.{Event, is_no_memory};
 ghost use Rattle.table_model.specs.declared.command.Config.{Config};
-ghost use Rattle.apply_path.specs.History.{is_operate, id_of, moment_of, owed_bytes, code_by as code_said};
-ghost use Rattle.apply_path.specs.Serves.{Stood, IsTold, Replied, Does};
+ghost use Rattle.apply_path.specs.History.{is_operate, id_of, moment_of, response_item, status_code_by as status_code_spec};
+ghost use Rattle.apply_path.specs.SessionAt.{CoreAt, AnswersReply, Replied, RunsCommands};
 
 use aft_entries::Reason;
-use message_run::Answered;
+use call_answers::{append_answer, append_operation_result, end_of};
+use message_run::Handled;
 use rib_core::{OperateEnd, RibCore};
 use schema_numbers::Numbering;
-use session_engine::{append_answer, append_operation_result, end_of};
 use std::alloc::{AllocError, Global};
 use table_model::{Command, Operation, Reply};
 
 /// How many events a table of `apply` has before it takes no more: an input's bytes give far fewer.
-const MOST_EVENTS: u64 = 2_305_843_009_213_693_952;
+const MAX_EVENTS: u64 = 2_305_843_009_213_693_952;
 
 // Appends a message as it stands in the output.
 fn append_item(out: &mut Vec<u8>, message: &[u8]) -> Result<(), AllocError>
@@ -38,8 +38,8 @@ fn append_item(out: &mut Vec<u8>, message: &[u8]) -> Result<(), AllocError>
 }
 
 // Appends the answer that is owed for a reply, spelled in `message` first.
-#[tactic(auto, unfolding(crate::specs::History::owed_bytes))]
-fn append_owed(
+#[tactic(auto, unfolding(crate::specs::History::response_item))]
+fn append_response_item(
     alloc: Global,
     n: &Numbering,
     id: u64,
@@ -48,7 +48,7 @@ fn append_owed(
     message: &mut Vec<u8>,
     out: &mut Vec<u8>,
 ) -> Result<(), AllocError>
-    ensures ok { OnOk result (out.new.items ≡ out.old.items ++ owed_bytes n.now id now reply.now) }
+    ensures ok { OnOk result (out.new.items ≡ out.old.items ++ response_item n.now id now reply.now) }
     ensures err { OnErr result (out.new.items ≡ out.old.items) }
 {
     message.clear();
@@ -60,8 +60,8 @@ fn append_owed(
 }
 
 // The status number that a reply ends the stream with.
-fn code_by(operate: bool, reply: &Reply) -> Result<Option<u8>, AllocError>
-    ensures { IfOk result (λ code. code ≡ code_said operate reply.now) }
+fn status_code_by(operate: bool, reply: &Reply) -> Result<Option<u8>, AllocError>
+    ensures { IfOk result (λ code. code ≡ status_code_spec operate reply.now) }
 {
     match end_of(operate, reply)? {
         None => Ok(None),
@@ -69,7 +69,7 @@ fn code_by(operate: bool, reply: &Reply) -> Result<Option<u8>, AllocError>
     }
 }
 
-fn is_lack(reply: &Reply) -> bool
+fn is_out_of_memory(reply: &Reply) -> bool
     ensures { result ≡ is_no_memory reply.now }
 {
     match reply {
@@ -88,19 +88,19 @@ pub fn tell(
     reply: &Reply,
     message: &mut Vec<u8>,
     out: &mut Vec<u8>,
-) -> Answered
-    ensures { IsTold n.now operate id now reply.now result out.old.items out.new.items }
+) -> Handled
+    ensures { AnswersReply n.now operate id now reply.now result out.old.items out.new.items }
 {
-    if is_lack(reply) {
-        return Answered::NoMemory;
+    if is_out_of_memory(reply) {
+        return Handled::NoMemory;
     }
-    match code_by(operate, reply) {
-        Err(_) => Answered::NoMemory,
-        Ok(code) => match append_owed(alloc, n, id, now, reply, message, out) {
-            Err(_) => Answered::NoMemory,
+    match status_code_by(operate, reply) {
+        Err(_) => Handled::NoMemory,
+        Ok(code) => match append_response_item(alloc, n, id, now, reply, message, out) {
+            Err(_) => Handled::NoMemory,
             Ok(()) => match code {
-                None => Answered::GoesOn,
-                Some(code) => Answered::Ends(code),
+                None => Handled::Continue,
+                Some(code) => Handled::Ends(code),
             },
         },
     }
@@ -115,7 +115,7 @@ fn append_operation_item(
     message: &mut Vec<u8>,
     out: &mut Vec<u8>,
 ) -> Result<(), AllocError>
-    ensures ok { OnOk result (out.new.items ≡ out.old.items ++ owed_bytes n.now id now (operate_reply failed)) }
+    ensures ok { OnOk result (out.new.items ≡ out.old.items ++ response_item n.now id now (operate_reply failed)) }
     ensures err { OnErr result (out.new.items ≡ out.old.items) }
 {
     message.clear();
@@ -125,25 +125,25 @@ fn append_operation_item(
 
 // Appends the result of an operation that failed for this reason, if any. It ends no stream.
 #[inline(always)]
-fn tell_result(
+fn answer_result(
     n: &Numbering,
     id: u64,
     now: i64,
     failed: Option<Reason>,
     message: &mut Vec<u8>,
     out: &mut Vec<u8>,
-) -> Answered
-    ensures { IsTold n.now true id now (operate_reply failed) result out.old.items out.new.items }
+) -> Handled
+    ensures { AnswersReply n.now true id now (operate_reply failed) result out.old.items out.new.items }
 {
     match append_operation_item(n, id, now, failed, message, out) {
-        Ok(()) => Answered::GoesOn,
-        Err(_) => Answered::NoMemory,
+        Ok(()) => Handled::Continue,
+        Err(_) => Handled::NoMemory,
     }
 }
 
 /// Appends the answer to an operation that ended so, and tells whether it ends the stream.
 #[inline(always)]
-pub fn tell_operation(
+pub fn answer_operation(
     alloc: Global,
     n: &Numbering,
     id: u64,
@@ -151,42 +151,42 @@ pub fn tell_operation(
     end: OperateEnd,
     message: &mut Vec<u8>,
     out: &mut Vec<u8>,
-) -> Answered
-    ensures { IsTold n.now true id now (end_reply end) result out.old.items out.new.items }
+) -> Handled
+    ensures { AnswersReply n.now true id now (end_reply end) result out.old.items out.new.items }
 {
     match end {
-        OperateEnd::Done => tell_result(n, id, now, None, message, out),
-        OperateEnd::Failed(reason) => tell_result(n, id, now, Some(reason), message, out),
-        OperateEnd::Gone => tell_away(alloc, n, id, now, message, out),
-        OperateEnd::NoParams => tell_without_params(alloc, n, id, now, message, out),
-        OperateEnd::NoMemory => Answered::NoMemory,
+        OperateEnd::Done => answer_result(n, id, now, None, message, out),
+        OperateEnd::Failed(reason) => answer_result(n, id, now, Some(reason), message, out),
+        OperateEnd::Gone => answer_gone(alloc, n, id, now, message, out),
+        OperateEnd::NoParams => answer_without_params(alloc, n, id, now, message, out),
+        OperateEnd::NoMemory => Handled::NoMemory,
     }
 }
 
 #[inline(never)]
-fn tell_away(
+fn answer_gone(
     alloc: Global,
     n: &Numbering,
     id: u64,
     now: i64,
     message: &mut Vec<u8>,
     out: &mut Vec<u8>,
-) -> Answered
-    ensures { IsTold n.now true id now Reply.Gone result out.old.items out.new.items }
+) -> Handled
+    ensures { AnswersReply n.now true id now Reply.Gone result out.old.items out.new.items }
 {
     tell(alloc, n, true, id, now, &Reply::Gone, message, out)
 }
 
 #[inline(never)]
-fn tell_without_params(
+fn answer_without_params(
     alloc: Global,
     n: &Numbering,
     id: u64,
     now: i64,
     message: &mut Vec<u8>,
     out: &mut Vec<u8>,
-) -> Answered
-    ensures { IsTold n.now true id now Reply.NoParams result out.old.items out.new.items }
+) -> Handled
+    ensures { AnswersReply n.now true id now Reply.NoParams result out.old.items out.new.items }
 {
     tell(alloc, n, true, id, now, &Reply::NoParams, message, out)
 }
@@ -201,7 +201,7 @@ fn discard_operation(operation: Operation) {
 pub fn operate(core: &mut RibCore, operation: Operation, now: i64) -> OperateEnd
     ensures room { Replied core.old (Command.Operate 0 operation now) (end_reply result) core.new }
 {
-    if core.events() >= MOST_EVENTS {
+    if core.events() >= MAX_EVENTS {
         discard_operation(operation);
         return OperateEnd::NoMemory;
     }
@@ -219,7 +219,7 @@ fn reply_to(core: &mut RibCore, command: Command) -> Reply
     requires { IsTrue (is_built command) }
     ensures room { Replied core.old command result core.new }
 {
-    if core.events() >= MOST_EVENTS {
+    if core.events() >= MAX_EVENTS {
         discard(command);
         return Reply::NoMemory;
     }
@@ -242,11 +242,11 @@ pub fn do_command(
     now: i64,
     message: &mut Vec<u8>,
     out: &mut Vec<u8>,
-) -> Answered
+) -> Handled
     requires built { IsTrue (is_built command) }
     requires names { (operate ≡ is_operate command) × (id ≡ id_of command) × (now ≡ moment_of command) }
-    requires stood { (config : Config) × (past : List Event) × Stood config core.old past }
-    ensures { Does n.now core.old core.new (command ∷ []) result out.old.items out.new.items }
+    requires stood { (config : Config) × (past : List Event) × CoreAt config core.old past }
+    ensures { RunsCommands n.now core.old core.new (command ∷ []) result out.old.items out.new.items }
 {
     let reply = reply_to(core, command);
     let answered = tell(alloc, n, operate, id, now, &reply, message, out);

@@ -1,6 +1,6 @@
 ghost use Rattle.std.specs.Prelude.{IsTrue};
 ghost use Rattle.aft_entries.specs.Shapes.{fits};
-ghost use Rattle.aft_messages.specs.Printing.{IsNamed};
+ghost use Rattle.aft_messages.specs.Printing.{HasKnownInstance};
 
 use addr_text::{Address, Prefix4};
 use aft_entries::{
@@ -201,7 +201,7 @@ fn faults_are_named(rt: HostRuntime) {
 // Whether the entry of this name and payload is written as these bytes.
 fn is_written(alloc: Global, name: KeyName, payload: Payload, bytes: &[u8]) -> Result<bool, Fail>
     requires fits { IsTrue (fits name payload) }
-    requires named { IsNamed 1 payload }
+    requires named { HasKnownInstance 1 payload }
 {
     let n = default_numbering(alloc)?;
     let mut names = Vec::new(alloc);

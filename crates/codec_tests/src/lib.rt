@@ -14,7 +14,7 @@ mod flush_messages;
 #[cfg(test)]
 mod get_messages;
 #[cfg(test)]
-mod message_words;
+mod message_values;
 #[cfg(test)]
 mod modify_requests;
 #[cfg(test)]

@@ -1,6 +1,6 @@
 use gribi_messages::{
-    MessageFault, ModifyRequest, Op, OperationPieces, RawEntry, RawParams, asks_of, decode_modify,
-    encode_modify_request,
+    MessageFault, ModifyRequest, Op, OperationReader, RawEntry, RawParams, decode_modify,
+    encode_modify_request, header_of,
 };
 use proto_wire::WireFault;
 use schema_numbers::{Numbering, default_numbering};
@@ -177,8 +177,8 @@ fn operations_are_read(rt: HostRuntime) -> Result<(), Fail> {
 fn parts_of_a_request_are_read_one_by_one(rt: HostRuntime) -> Result<(), Fail> {
     let n = default_numbering(rt.alloc())?;
     let bytes = b"\x0a\x02\x08\x01\x0a\x00";
-    assert!(rt; asks_of(rt.alloc(), &n, bytes)? == (None, None));
-    let mut pieces = OperationPieces::new(&n, bytes);
+    assert!(rt; header_of(rt.alloc(), &n, bytes)? == (None, None));
+    let mut pieces = OperationReader::new(&n, bytes);
     assert!(rt; pieces.next() == Some(b"\x08\x01"));
     assert!(rt; pieces.next() == Some(b""));
     assert!(rt; pieces.next() == None);

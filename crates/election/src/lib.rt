@@ -8,7 +8,7 @@ ghost use Rattle.std.specs.Prelude.{◌≡◌, ◌≢◌, true, max, List, [], �
 ghost use Rattle.table_model.specs.Event.{Event};
 ghost use Rattle.table_model.specs.Sessions.{is_live};
 ghost use Rattle.table_model.specs.Election as history;
-ghost use Rattle.election.specs.Poll.{StandsFor, announced, left};
+ghost use Rattle.election.specs.ElectionState.{StandsFor, announced, left};
 
 use std::marker::Model;
 
@@ -30,9 +30,9 @@ pub struct Election {
 
 impl Model for Election {
     ghost use Rattle.table_model.specs.Election as history;
-    ghost use Rattle.election.specs.Poll.{Poll};
+    ghost use Rattle.election.specs.ElectionState.{ElectionState};
 
-    ghost Value = { Poll };
+    ghost Value = { ElectionState };
 
     ghost view = { λ e. record { highest = e.highest; primary = e.primary } };
 }
@@ -78,7 +78,7 @@ impl Election {
         self.primary = if id >= self.highest {
             Some(session)
         } else {
-            unless(session, self.primary)
+            other_than(session, self.primary)
         };
         self.highest = id.max(self.highest);
         AnnounceEnd::Announced(self.highest)
@@ -88,13 +88,13 @@ impl Election {
     pub fn leave(&mut self, session: u64)
         ensures { (past : List Event) → StandsFor self.old past → StandsFor self.new (left session ∷ past) }
     {
-        self.primary = unless(session, self.primary);
+        self.primary = other_than(session, self.primary);
     }
 }
 
 // The holder, unless it is this session.
-fn unless(session: u64, holder: Option<u64>) -> Option<u64>
-    ensures { result ≡ history.unless session holder }
+fn other_than(session: u64, holder: Option<u64>) -> Option<u64>
+    ensures { result ≡ history.other_than session holder }
 {
     match holder {
         Some(other) if session != other => holder,

@@ -7,8 +7,8 @@ use Rattle.std.proofs.lemmas.List.Folds.{find_at}
 use Rattle.std.proofs.lemmas.List.Quantifiers.{position-Some}
 use Rattle.std.proofs.lemmas.Option.{slice_get_past, get_or_from_slice_get}
 use Rattle.table_model.proofs.Tests.{and_left, and_right}
-use Rattle.table_model.specs.Jobs.{Slot, next_task, on_shard, is_waiting, is_blocked}
-use Rattle.fib_board.specs.Places.{may_start}
+use Rattle.table_model.specs.Jobs.{TrackedTask, next_task, on_shard, is_waiting, is_blocked}
+use Rattle.fib_board.specs.BoardInvariant.{may_start}
 
 -- what stands at a place
 pub some_at : {X : Type 0} (xs : List X) (i : ℕ) → i < length xs → (x : X) × (slice_get xs i ≡ Some x)
@@ -47,7 +47,7 @@ module _ {X : Type 0} (p : X → Bool) where
       by_test true rest = refl
       by_test false rest = rest
 
-module _ (workers : ℕ) (undone : List Slot) (worker : ℕ) where
+module _ (workers : ℕ) (undone : List TrackedTask) (worker : ℕ) where
   pub next_none : position (may_start workers undone worker) undone ≡ None → next_task workers undone worker ≡ None
   unfolding next_task
   next_none missing = found_none (may_start workers undone worker) undone missing
@@ -56,7 +56,7 @@ module _ (workers : ℕ) (undone : List Slot) (worker : ℕ) where
   unfolding next_task
   next_found at found = found_at (may_start workers undone worker) undone at found
 
-  pub next_waits : (at : ℕ) (slot : Slot) → position (may_start workers undone worker) undone ≡ Some at → slice_get undone at ≡ Some slot → is_waiting slot.outcome ≡ true
-  next_waits at slot found is =
-      and_right (on_shard workers worker slot.task) (is_waiting slot.outcome)
-      (and_left (on_shard workers worker slot.task && is_waiting slot.outcome) (not (is_blocked undone slot.task)) (found_passes (may_start workers undone worker) undone at slot found is))
+  pub next_waits : (at : ℕ) (tracked : TrackedTask) → position (may_start workers undone worker) undone ≡ Some at → slice_get undone at ≡ Some tracked → is_waiting tracked.outcome ≡ true
+  next_waits at tracked found is =
+      and_right (on_shard workers worker tracked.task) (is_waiting tracked.outcome)
+      (and_left (on_shard workers worker tracked.task && is_waiting tracked.outcome) (not (is_blocked undone tracked.task)) (found_passes (may_start workers undone worker) undone at tracked found is))

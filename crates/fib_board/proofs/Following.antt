@@ -15,57 +15,57 @@ use Rattle.table_model.specs.declared.reply.Reply.{Reply}
 use Rattle.table_model.specs.declared.reply.Reply.TheVariants as reply
 use Rattle.table_model.specs.declared.results.FibResult.{FibResult}
 use Rattle.table_model.specs.Event.{Event}
-use Rattle.table_model.specs.Jobs.{Task, Turn, Slot, Outcome, Waiting, Out, Programmed, Faulted, PassedOver, tasks, tasks_by, task_at, slots, turn_of, turn_taken, outcome_of, number_eq, is_undone, is_waiting, is_out, is_programmed, is_blocked, is_clear, is_skipped, on_shard, next_task, effect, fib, reported}
+use Rattle.table_model.specs.Jobs.{Task, JobUpdate, TrackedTask, Outcome, Waiting, Out, Programmed, Faulted, PassedOver, tasks, tasks_by, task_at, tracked_tasks, update_of, update_by_take, outcome_of, number_eq, is_undone, is_waiting, is_out, is_programmed, is_blocked, is_clear, is_skipped, on_shard, next_task, effect, fib, reported}
 use Rattle.table_model.specs.Laws.{event, effect_of, batch_in}
-use Rattle.table_model.specs.Ledger.{Ledger, StandsFor, as_wanted, is_kept, undone_slots, due_for, due_of}
+use Rattle.table_model.specs.BoardState.{BoardState, StandsFor, as_wanted, is_undone_task, undone_tasks, due_for, due_of}
 use Rattle.table_model.specs.Legal.{IsLawful}
 use Rattle.table_model.specs.Reply.{reply_to, reply_take, take_reply, is_halted, is_gone}
 use Rattle.table_model.specs.Results.{results, result_by, taken, collected_by, batch, outstanding}
 use Rattle.table_model.specs.Sessions.{is_live}
 use Rattle.table_model.proofs.Inert.{IsInert, inert_live}
 use Rattle.table_model.proofs.Tests.{and_left, and_right}
-use Rattle.table_laws.specs.Boards.{BoardsTell}
+use Rattle.table_laws.specs.Boards.{BoardAnswersAsHistory}
 use Rattle.table_laws.proofs.Ascending.{number, ascend}
 use Rattle.table_laws.proofs.Reports.{out_undone as was_undone}
-use Rattle.table_laws.proofs.Turns.{Each, IsFound, found, slot_at, number_same, number_symm, number_refl}
-use Rattle.fib_board.specs.Follows.{Leaves, TakeLeaves, ReportLeaves, CollectLeaves, TakesFollow, ReportsFollow, CollectsFollow}
-use Rattle.fib_board.specs.Steps.{without, sent, results_of, undone_after_take, skipped_results, is_out_as, out_slot, undone_after_report, fib_by, fib_after_report, reported_results, due_after_collect}
+use Rattle.table_laws.proofs.Updates.{Each, IsFound, found, tracked_at, number_same, number_symm, number_refl}
+use Rattle.fib_board.specs.Follows.{BoardStateIs, AfterTake, AfterReport, AfterCollect, TakesFollow, ReportsFollow, CollectsFollow}
+use Rattle.fib_board.specs.Steps.{without, sent, results_of, undone_after_take, skipped_results, is_out_as, out_task, undone_after_report, fib_by, fib_after_report, reported_results, due_after_collect}
 use Rattle.fib_board.proofs.Ending.{passed_undone, passed_due, out_undone, out_due}
 use Rattle.fib_board.proofs.Finding.{any_found}
-use Rattle.fib_board.proofs.Standing.{same_wanted, same_alive, without_wanted, sent_wanted, undone_stay, undone_without, undone_sent, due_stays, due_done, programmed_of, fib_by_turn}
+use Rattle.fib_board.proofs.Standing.{same_wanted, same_alive, without_wanted, sent_wanted, undone_stay, undone_without, undone_sent, due_stays, due_done, programmed_of, fib_by_update}
 
-module _ (config : Config) (command : Command) (r : Reply) (past : List Event) (lawful : IsLawful config (event command r ∷ past)) (inert : IsInert r) (before after : Ledger) (stands : StandsFor before past) where
+module _ (config : Config) (command : Command) (r : Reply) (past : List Event) (lawful : IsLawful config (event command r ∷ past)) (inert : IsInert r) (before after : BoardState) (stands : StandsFor before past) where
   none_made : tasks_by (event command r) past ≡ []
   none_made = rw (inert.done, inert.flushed, inert.left) refl
 
   alive : (session : ℕ) → is_live (event command r ∷ past) session ≡ is_live past session
   alive = same_alive (event command r ∷ past) past (inert_live command r past inert)
 
-  wanted : (xs : List Slot) → map (as_wanted (event command r ∷ past)) xs ≡ map (as_wanted past) xs
+  wanted : (xs : List TrackedTask) → map (as_wanted (event command r ∷ past)) xs ≡ map (as_wanted past) xs
   wanted = same_wanted (event command r ∷ past) past (inert_live command r past inert)
 
   -- the event is about no job
-  module _ (none : turn_of (event command r) ≡ None) where
-    pub undone_same : before.undone ≡ map (as_wanted (event command r ∷ past)) (undone_slots (event command r ∷ past))
-    undone_same = stands.undone ∙ ap (map (as_wanted past)) (sym (undone_stay (event command r) past none_made none)) ∙ sym (wanted (undone_slots (event command r ∷ past)))
+  module _ (none : update_of (event command r) ≡ None) where
+    pub undone_same : before.undone ≡ map (as_wanted (event command r ∷ past)) (undone_tasks (event command r ∷ past))
+    undone_same = stands.undone ∙ ap (map (as_wanted past)) (sym (undone_stay (event command r) past none_made none)) ∙ sym (wanted (undone_tasks (event command r ∷ past)))
 
     pub fib_same : before.fib ≡ fib (event command r ∷ past)
-    fib_same = stands.fib ∙ sym (fib_by_turn config (event command r) past lawful None none)
+    fib_same = stands.fib ∙ sym (fib_by_update config (event command r) past lawful None none)
 
-    pub none_follows : ((session : ℕ) → collected_by session (event command r) ≡ 0) → Leaves after before.workers before.undone before.fib (due_for before.due) → StandsFor after (event command r ∷ past)
+    pub none_follows : ((session : ℕ) → collected_by session (event command r) ≡ 0) → BoardStateIs after before.workers before.undone before.fib (due_for before.due) → StandsFor after (event command r ∷ past)
     none_follows untaken leaves = record {
       undone = leaves.undone ∙ undone_same;
       fib = leaves.fib ∙ fib_same;
       due = λ session. leaves.due session ∙ stands.due session ∙ sym (due_stays config (event command r) past lawful.1 session (alive session) (untaken session) (ap (result_by session (tasks past)) none));
     }
 
-  module _ (untaken : (session : ℕ) → collected_by session (event command r) ≡ 0) (turn : Turn) (is : turn_of (event command r) ≡ Some turn) where
+  module _ (untaken : (session : ℕ) → collected_by session (event command r) ≡ 0) (turn : JobUpdate) (is : update_of (event command r) ≡ Some turn) where
     -- a job goes out
-    pub out_follows : turn.outcome ≡ Out → is_undone (outcome_of past turn.number) ≡ true → Leaves after before.workers (map (sent turn.number) before.undone) before.fib (due_for before.due) → StandsFor after (event command r ∷ past)
+    pub out_follows : turn.outcome ≡ Out → is_undone (outcome_of past turn.number) ≡ true → BoardStateIs after before.workers (map (sent turn.number) before.undone) before.fib (due_for before.due) → StandsFor after (event command r ∷ past)
     out_follows goes undone leaves = record {
-      undone = leaves.undone ∙ ap (map (sent turn.number)) stands.undone ∙ sent_wanted past turn.number (undone_slots past)
-          ∙ ap (map (as_wanted past)) (sym (undone_sent (event command r) past none_made turn is goes undone)) ∙ sym (wanted (undone_slots (event command r ∷ past)));
-      fib = leaves.fib ∙ stands.fib ∙ sym (fib_by_turn config (event command r) past lawful (Some turn) is ∙ idle);
+      undone = leaves.undone ∙ ap (map (sent turn.number)) stands.undone ∙ sent_wanted past turn.number (undone_tasks past)
+          ∙ ap (map (as_wanted past)) (sym (undone_sent (event command r) past none_made turn is goes undone)) ∙ sym (wanted (undone_tasks (event command r ∷ past)));
+      fib = leaves.fib ∙ stands.fib ∙ sym (fib_by_update config (event command r) past lawful (Some turn) is ∙ idle);
       due = λ session. leaves.due session ∙ stands.due session ∙ sym (due_stays config (event command r) past lawful.1 session (alive session) (untaken session) (ap (result_by session (tasks past)) is ∙ no_result session));
     }
       where
@@ -76,19 +76,19 @@ module _ (config : Config) (command : Command) (r : Reply) (past : List Event) (
         no_result session = rw goes refl
 
     -- a job is done
-    pub done_follows : (slot : Slot) → is_undone turn.outcome ≡ false → task_at turn.number (tasks past) ≡ Some slot.task
-        → Leaves after before.workers (without turn.number before.undone) (if is_programmed turn.outcome then effect before.fib slot.task.job.work else before.fib)
-        (λ session. due_for before.due session ++ results_of session (as_wanted past slot).task turn.outcome turn.now)
+    pub done_follows : (tracked : TrackedTask) → is_undone turn.outcome ≡ false → task_at turn.number (tasks past) ≡ Some tracked.task
+        → BoardStateIs after before.workers (without turn.number before.undone) (if is_programmed turn.outcome then effect before.fib tracked.task.job.work else before.fib)
+        (λ session. due_for before.due session ++ results_of session (as_wanted past tracked).task turn.outcome turn.now)
         → StandsFor after (event command r ∷ past)
-    done_follows slot done of_it leaves = record {
-      undone = leaves.undone ∙ ap (without turn.number) stands.undone ∙ without_wanted past turn.number (undone_slots past)
-          ∙ ap (map (as_wanted past)) (sym (undone_without (event command r) past none_made turn is done)) ∙ sym (wanted (undone_slots (event command r ∷ past)));
-      fib = leaves.fib ∙ ap (λ table. if is_programmed turn.outcome then effect table slot.task.job.work else table) stands.fib ∙ sym (fib_by_turn config (event command r) past lawful (Some turn) is ∙ done_fib (is_programmed turn.outcome));
-      due = λ session. leaves.due session ∙ ap (λ l. l ++ results_of session (as_wanted past slot).task turn.outcome turn.now) (stands.due session)
-          ∙ sym (due_done config (event command r) past lawful.1 session (alive session) (untaken session) turn slot is done of_it);
+    done_follows tracked done of_it leaves = record {
+      undone = leaves.undone ∙ ap (without turn.number) stands.undone ∙ without_wanted past turn.number (undone_tasks past)
+          ∙ ap (map (as_wanted past)) (sym (undone_without (event command r) past none_made turn is done)) ∙ sym (wanted (undone_tasks (event command r ∷ past)));
+      fib = leaves.fib ∙ ap (λ table. if is_programmed turn.outcome then effect table tracked.task.job.work else table) stands.fib ∙ sym (fib_by_update config (event command r) past lawful (Some turn) is ∙ done_fib (is_programmed turn.outcome));
+      due = λ session. leaves.due session ∙ ap (λ l. l ++ results_of session (as_wanted past tracked).task turn.outcome turn.now) (stands.due session)
+          ∙ sym (due_done config (event command r) past lawful.1 session (alive session) (untaken session) turn tracked is done of_it);
     }
       where
-        done_fib : (b : Bool) → effect_of (cond b (task_at turn.number (tasks past)) None) (fib past) ≡ cond b (effect (fib past) slot.task.job.work) (fib past)
+        done_fib : (b : Bool) → effect_of (cond b (task_at turn.number (tasks past)) None) (fib past) ≡ cond b (effect (fib past) tracked.task.job.work) (fib past)
         done_fib true = ap (λ o. effect_of o (fib past)) of_it
         done_fib false = refl
 
@@ -112,89 +112,89 @@ waits_undone PassedOver h = cc
 
 -- A worker takes a job.
 
-job_wanted : (past : List Event) (slot : Slot) → (as_wanted past slot).task.job ≡ slot.task.job
+job_wanted : (past : List Event) (tracked : TrackedTask) → (as_wanted past tracked).task.job ≡ tracked.task.job
 unfolding as_wanted
-job_wanted past slot = refl
+job_wanted past tracked = refl
 
-module _ (config : Config) (tells : BoardsTell config) (past : List Event) (before after : Ledger) (worker : ℕ) (now : ℤ) (answer : Reply)
-    (lawful : IsLawful config (event (Take worker now) answer ∷ past)) (same : before.workers ≡ config.workers) (stands : StandsFor before past) (leaves : TakeLeaves worker now before after) where
-  abbrev may_go : Slot → Bool
-  may_go s = on_shard config.workers worker s.task && is_waiting s.outcome && not (is_blocked (slots past) s.task)
+module _ (config : Config) (tells : BoardAnswersAsHistory config) (past : List Event) (before after : BoardState) (worker : ℕ) (now : ℤ) (answer : Reply)
+    (lawful : IsLawful config (event (Take worker now) answer ∷ past)) (same : before.workers ≡ config.workers) (stands : StandsFor before past) (leaves : AfterTake worker now before after) where
+  abbrev may_go : TrackedTask → Bool
+  may_go s = on_shard config.workers worker s.task && is_waiting s.outcome && not (is_blocked (tracked_tasks past) s.task)
 
-  next_is : (o : Option Slot) → next_task config.workers (slots past) worker ≡ o → next_task before.workers before.undone worker ≡ option_map (as_wanted past) o
+  next_is : (o : Option TrackedTask) → next_task config.workers (tracked_tasks past) worker ≡ o → next_task before.workers before.undone worker ≡ option_map (as_wanted past) o
   next_is o is = (tells past before same stands).next worker ∙ ap (option_map (as_wanted past)) is
 
-  found_in : (slot : Slot) → next_task config.workers (slots past) worker ≡ Some slot → IsFound past may_go slot (tasks past)
-  unfolding next_task slots
-  found_in slot is = found past may_go slot (tasks past) (ascend past) is
+  found_in : (tracked : TrackedTask) → next_task config.workers (tracked_tasks past) worker ≡ Some tracked → IsFound past may_go tracked (tasks past)
+  unfolding next_task tracked_tasks
+  found_in tracked is = found past may_go tracked (tasks past) (ascend past) is
 
-  found_task : (slot : Slot) → IsFound past may_go slot (tasks past) → task_at slot.task.job.number (tasks past) ≡ Some slot.task
-  found_task slot here =
-      ap (find (λ other. number_eq slot.task.job.number other.job.number)) here.parts
-      ∙ only_one slot.task.job.number slot.task here.front here.back (number_refl slot.task.job.number)
-      (subst (Each (λ other. number_eq slot.task.job.number (number other) ≡ true → other ≡ slot.task)) here.parts here.only)
+  found_task : (tracked : TrackedTask) → IsFound past may_go tracked (tasks past) → task_at tracked.task.job.number (tasks past) ≡ Some tracked.task
+  found_task tracked here =
+      ap (find (λ other. number_eq tracked.task.job.number other.job.number)) here.parts
+      ∙ only_one tracked.task.job.number tracked.task here.front here.back (number_refl tracked.task.job.number)
+      (subst (Each (λ other. number_eq tracked.task.job.number (number other) ≡ true → other ≡ tracked.task)) here.parts here.only)
 
-  found_undone : (slot : Slot) → IsFound past may_go slot (tasks past) → is_undone (outcome_of past slot.task.job.number) ≡ true
-  found_undone slot here =
-      waits_undone (outcome_of past slot.task.job.number)
+  found_undone : (tracked : TrackedTask) → IsFound past may_go tracked (tasks past) → is_undone (outcome_of past tracked.task.job.number) ≡ true
+  found_undone tracked here =
+      waits_undone (outcome_of past tracked.task.job.number)
       (ap is_waiting (sym here.outcome_is)
-      ∙ and_right (on_shard config.workers worker slot.task) (is_waiting slot.outcome) (and_left (on_shard config.workers worker slot.task && is_waiting slot.outcome) (not (is_blocked (slots past) slot.task)) here.passes))
+      ∙ and_right (on_shard config.workers worker tracked.task) (is_waiting tracked.outcome) (and_left (on_shard config.workers worker tracked.task && is_waiting tracked.outcome) (not (is_blocked (tracked_tasks past) tracked.task)) here.passes))
 
-  same_skip : (slot : Slot) → is_skipped before.fib (as_wanted past slot).task.job.work ≡ is_skipped (fib past) slot.task.job.work
-  same_skip slot = ap (λ table. is_skipped table (as_wanted past slot).task.job.work) stands.fib ∙ ap (λ (job : Job). is_skipped (fib past) job.work) (job_wanted past slot)
+  same_skip : (tracked : TrackedTask) → is_skipped before.fib (as_wanted past tracked).task.job.work ≡ is_skipped (fib past) tracked.task.job.work
+  same_skip tracked = ap (λ table. is_skipped table (as_wanted past tracked).task.job.work) stands.fib ∙ ap (λ (job : Job). is_skipped (fib past) job.work) (job_wanted past tracked)
 
-  idle_take : (r : Reply) → answer ≡ r → IsInert r → turn_taken now r ≡ None → next_task before.workers before.undone worker ≡ None → StandsFor after (event (Take worker now) answer ∷ past)
+  idle_take : (r : Reply) → answer ≡ r → IsInert r → update_by_take now r ≡ None → next_task before.workers before.undone worker ≡ None → StandsFor after (event (Take worker now) answer ∷ past)
   idle_take r told inert none nothing =
-      none_follows config (Take worker now) answer past lawful (subst IsInert (sym told) inert) before after stands (ap (turn_taken now) told ∙ none) (λ session. refl) (record {
+      none_follows config (Take worker now) answer past lawful (subst IsInert (sym told) inert) before after stands (ap (update_by_take now) told ∙ none) (λ session. refl) (record {
         workers = leaves.workers;
         undone = leaves.undone ∙ ap (undone_after_take before.fib before.undone) nothing;
         fib = leaves.fib;
         due = λ session. leaves.due session ∙ ap (λ o. due_for before.due session ++ skipped_results session before.fib now o) nothing ∙ append-nil (due_for before.due session);
       })
 
-  passed_take : (slot : Slot) → answer ≡ reply.Skipped slot.task.job.number → next_task config.workers (slots past) worker ≡ Some slot → is_skipped (fib past) slot.task.job.work ≡ true → StandsFor after (event (Take worker now) answer ∷ past)
-  passed_take slot told is skipped =
-      let here = found_in slot is in
-      let skip = same_skip slot ∙ skipped in
-      let of_it = ap (λ (job : Job). job.number) (job_wanted past slot) in
+  passed_take : (tracked : TrackedTask) → answer ≡ reply.Skipped tracked.task.job.number → next_task config.workers (tracked_tasks past) worker ≡ Some tracked → is_skipped (fib past) tracked.task.job.work ≡ true → StandsFor after (event (Take worker now) answer ∷ past)
+  passed_take tracked told is skipped =
+      let here = found_in tracked is in
+      let skip = same_skip tracked ∙ skipped in
+      let of_it = ap (λ (job : Job). job.number) (job_wanted past tracked) in
       done_follows config (Take worker now) answer past lawful (subst IsInert (sym told) (record { began = refl; params_set = refl; announced = refl; done = refl; left = refl; flushed = refl; halt_done = refl; no_memory = refl })) before after stands
-      (λ session. refl) (record { number = slot.task.job.number; outcome = PassedOver; now = now }) (ap (turn_taken now) told) slot refl (found_task slot here) (record {
+      (λ session. refl) (record { number = tracked.task.job.number; outcome = PassedOver; now = now }) (ap (update_by_take now) told) tracked refl (found_task tracked here) (record {
         workers = leaves.workers;
-        undone = leaves.undone ∙ passed_undone before.fib _ (as_wanted past slot) (next_is (Some slot) is) skip before.undone ∙ ap (λ n. without n before.undone) of_it;
+        undone = leaves.undone ∙ passed_undone before.fib _ (as_wanted past tracked) (next_is (Some tracked) is) skip before.undone ∙ ap (λ n. without n before.undone) of_it;
         fib = leaves.fib;
-        due = λ session. leaves.due session ∙ ap (λ l. due_for before.due session ++ l) (passed_due before.fib _ (as_wanted past slot) (next_is (Some slot) is) skip session now);
+        due = λ session. leaves.due session ∙ ap (λ l. due_for before.due session ++ l) (passed_due before.fib _ (as_wanted past tracked) (next_is (Some tracked) is) skip session now);
       })
 
-  sent_take : (slot : Slot) → answer ≡ reply.Given slot.task.job → next_task config.workers (slots past) worker ≡ Some slot → is_skipped (fib past) slot.task.job.work ≡ false → StandsFor after (event (Take worker now) answer ∷ past)
-  sent_take slot told is able =
-      let here = found_in slot is in
-      let go = same_skip slot ∙ able in
-      let of_it = ap (λ (job : Job). job.number) (job_wanted past slot) in
+  sent_take : (tracked : TrackedTask) → answer ≡ reply.Given tracked.task.job → next_task config.workers (tracked_tasks past) worker ≡ Some tracked → is_skipped (fib past) tracked.task.job.work ≡ false → StandsFor after (event (Take worker now) answer ∷ past)
+  sent_take tracked told is able =
+      let here = found_in tracked is in
+      let go = same_skip tracked ∙ able in
+      let of_it = ap (λ (job : Job). job.number) (job_wanted past tracked) in
       out_follows config (Take worker now) answer past lawful (subst IsInert (sym told) (record { began = refl; params_set = refl; announced = refl; done = refl; left = refl; flushed = refl; halt_done = refl; no_memory = refl })) before after stands
-      (λ session. refl) (record { number = slot.task.job.number; outcome = Out; now = now }) (ap (turn_taken now) told) refl (found_undone slot here) (record {
+      (λ session. refl) (record { number = tracked.task.job.number; outcome = Out; now = now }) (ap (update_by_take now) told) refl (found_undone tracked here) (record {
         workers = leaves.workers;
-        undone = leaves.undone ∙ out_undone before.fib _ (as_wanted past slot) (next_is (Some slot) is) go before.undone ∙ ap (λ n. map (sent n) before.undone) of_it;
+        undone = leaves.undone ∙ out_undone before.fib _ (as_wanted past tracked) (next_is (Some tracked) is) go before.undone ∙ ap (λ n. map (sent n) before.undone) of_it;
         fib = leaves.fib;
-        due = λ session. leaves.due session ∙ ap (λ l. due_for before.due session ++ l) (out_due before.fib _ (as_wanted past slot) (next_is (Some slot) is) go session now) ∙ append-nil (due_for before.due session);
+        due = λ session. leaves.due session ∙ ap (λ l. due_for before.due session ++ l) (out_due before.fib _ (as_wanted past tracked) (next_is (Some tracked) is) go session now) ∙ append-nil (due_for before.due session);
       })
 
-  by_next : (o : Option Slot) → next_task config.workers (slots past) worker ≡ o → answer ≡ take_reply config past worker o → StandsFor after (event (Take worker now) answer ∷ past)
-  by_next None is told = by_halt (is_halted past && is_clear config.workers (slots past) worker) told
+  by_next : (o : Option TrackedTask) → next_task config.workers (tracked_tasks past) worker ≡ o → answer ≡ take_reply config past worker o → StandsFor after (event (Take worker now) answer ∷ past)
+  by_next None is told = by_halt (is_halted past && is_clear config.workers (tracked_tasks past) worker) told
     where
       by_halt : (b : Bool) → answer ≡ cond b reply.HaltSeen reply.Idle → StandsFor after (event (Take worker now) answer ∷ past)
       by_halt true says = idle_take reply.HaltSeen says (record { began = refl; params_set = refl; announced = refl; done = refl; left = refl; flushed = refl; halt_done = refl; no_memory = refl }) refl (next_is None is)
       by_halt false says = idle_take reply.Idle says (record { began = refl; params_set = refl; announced = refl; done = refl; left = refl; flushed = refl; halt_done = refl; no_memory = refl }) refl (next_is None is)
-  by_next (Some slot) is told = by_skip (is_skipped (fib past) slot.task.job.work) refl told
+  by_next (Some tracked) is told = by_skip (is_skipped (fib past) tracked.task.job.work) refl told
     where
-      by_skip : (b : Bool) → is_skipped (fib past) slot.task.job.work ≡ b → answer ≡ cond b (reply.Skipped slot.task.job.number) (reply.Given slot.task.job) → StandsFor after (event (Take worker now) answer ∷ past)
-      by_skip true skipped says = passed_take slot says is skipped
-      by_skip false able says = sent_take slot says is able
+      by_skip : (b : Bool) → is_skipped (fib past) tracked.task.job.work ≡ b → answer ≡ cond b (reply.Skipped tracked.task.job.number) (reply.Given tracked.task.job) → StandsFor after (event (Take worker now) answer ∷ past)
+      by_skip true skipped says = passed_take tracked says is skipped
+      by_skip false able says = sent_take tracked says is able
 
   pub take_stands : StandsFor after (event (Take worker now) answer ∷ past)
   unfolding reply_to reply_take
-  take_stands = by_next (next_task config.workers (slots past) worker) refl lawful.0
+  take_stands = by_next (next_task config.workers (tracked_tasks past) worker) refl lawful.0
 
-pub takes_follow : (config : Config) → BoardsTell config → TakesFollow config
+pub takes_follow : (config : Config) → BoardAnswersAsHistory config → TakesFollow config
 takes_follow config tells past before after worker now answer lawful same stands leaves = take_stands config tells past before after worker now answer lawful same stands leaves
 
 -- A device's work is reported.
@@ -211,16 +211,16 @@ said_done : (said : Verdict) → is_undone (reported said) ≡ false
 said_done verdict.Programmed = refl
 said_done verdict.DeviceFault = refl
 
-said_fib : (said : Verdict) (table : List Entry) (slot : Slot) (job : Job) → job ≡ slot.task.job → fib_by said table job.work ≡ (if is_programmed (reported said) then effect table slot.task.job.work else table)
-said_fib verdict.Programmed table slot job same = ap (λ (j : Job). effect table j.work) same
-said_fib verdict.DeviceFault table slot job same = refl
+said_fib : (said : Verdict) (table : List Entry) (tracked : TrackedTask) (job : Job) → job ≡ tracked.task.job → fib_by said table job.work ≡ (if is_programmed (reported said) then effect table tracked.task.job.work else table)
+said_fib verdict.Programmed table tracked job same = ap (λ (j : Job). effect table j.work) same
+said_fib verdict.DeviceFault table tracked job same = refl
 
 module _ (past : List Event) (n : JobNumber) (out : is_out (outcome_of past n) ≡ true) where
-  same_test : (slot : Slot) → is_out_as n (as_wanted past slot) ≡ is_out_as n slot
+  same_test : (tracked : TrackedTask) → is_out_as n (as_wanted past tracked) ≡ is_out_as n tracked
   unfolding as_wanted
-  same_test slot = refl
+  same_test tracked = refl
 
-  out_step : (t : Task) (rest : List Slot) (further : Option Slot) (o : Outcome) → o ≡ outcome_of past (number t)
+  out_step : (t : Task) (rest : List TrackedTask) (further : Option TrackedTask) (o : Outcome) → o ≡ outcome_of past (number t)
       → find (is_out_as n) (map (as_wanted past) rest) ≡ further
       → (a b : Bool) → number_eq n (number t) ≡ a → is_undone o ≡ b
       → find (is_out_as n) (map (as_wanted past) (cond b (record { task = t; outcome = o } ∷ rest) rest)) ≡ cond a (Some (as_wanted past (record { task = t; outcome = o }))) further
@@ -233,56 +233,56 @@ module _ (past : List Event) (n : JobNumber) (out : is_out (outcome_of past n) �
   out_step t rest further o is more false true far kept = rw (same_test (record { task = t; outcome = o }), sym (number_symm n (number t)) ∙ far) more
   out_step t rest further o is more false false far left = more
 
-  map_cond : (b : Bool) (t : Task) (further : Option Task) → option_map (λ x. as_wanted past (slot_at past x)) (cond b (Some t) further) ≡ cond b (Some (as_wanted past (slot_at past t))) (option_map (λ x. as_wanted past (slot_at past x)) further)
+  map_cond : (b : Bool) (t : Task) (further : Option Task) → option_map (λ x. as_wanted past (tracked_at past x)) (cond b (Some t) further) ≡ cond b (Some (as_wanted past (tracked_at past t))) (option_map (λ x. as_wanted past (tracked_at past x)) further)
   map_cond true t further = refl
   map_cond false t further = refl
 
-  out_found : (ts : List Task) → find (is_out_as n) (map (as_wanted past) (filter is_kept (map (slot_at past) ts))) ≡ option_map (λ t. as_wanted past (slot_at past t)) (find (λ t. number_eq n t.job.number) ts)
+  out_found : (ts : List Task) → find (is_out_as n) (map (as_wanted past) (filter is_undone_task (map (tracked_at past) ts))) ≡ option_map (λ t. as_wanted past (tracked_at past t)) (find (λ t. number_eq n t.job.number) ts)
   out_found [] = refl
   out_found (t ∷ ts) =
-      out_step t (filter is_kept (map (slot_at past) ts)) (option_map (λ x. as_wanted past (slot_at past x)) (find (λ x. number_eq n x.job.number) ts)) (outcome_of past (number t)) refl (out_found ts) (number_eq n (number t)) (is_undone (outcome_of past (number t))) refl refl
+      out_step t (filter is_undone_task (map (tracked_at past) ts)) (option_map (λ x. as_wanted past (tracked_at past x)) (find (λ x. number_eq n x.job.number) ts)) (outcome_of past (number t)) refl (out_found ts) (number_eq n (number t)) (is_undone (outcome_of past (number t))) refl refl
       ∙ sym (map_cond (number_eq n (number t)) t (find (λ x. number_eq n x.job.number) ts))
 
-  pub slot_out : out_slot n (map (as_wanted past) (undone_slots past)) ≡ option_map (λ t. as_wanted past (slot_at past t)) (find (λ t. number_eq n t.job.number) (tasks past))
-  unfolding undone_slots slots
-  slot_out = out_found (tasks past)
+  pub tracked_out : out_task n (map (as_wanted past) (undone_tasks past)) ≡ option_map (λ t. as_wanted past (tracked_at past t)) (find (λ t. number_eq n t.job.number) (tasks past))
+  unfolding undone_tasks tracked_tasks
+  tracked_out = out_found (tasks past)
 
 none_of : {X : Type 0} (o : Option X) → is_some o ≡ false → o ≡ None
 none_of None h = refl
 none_of (Some x) h = cc
 
-module _ (config : Config) (tells : BoardsTell config) (past : List Event) (before after : Ledger) (n : JobNumber) (said : Verdict) (now : ℤ) (answer : Reply)
-    (lawful : IsLawful config (event (Report n said now) answer ∷ past)) (stands : StandsFor before past) (leaves : ReportLeaves n said now before after) where
+module _ (config : Config) (tells : BoardAnswersAsHistory config) (past : List Event) (before after : BoardState) (n : JobNumber) (said : Verdict) (now : ℤ) (answer : Reply)
+    (lawful : IsLawful config (event (Report n said now) answer ∷ past)) (stands : StandsFor before past) (leaves : AfterReport n said now before after) where
   -- whether a job is out doesn't depend on the number of workers
-  abbrev counted : Ledger
+  abbrev counted : BoardState
   counted = record { workers = config.workers; undone = before.undone; fib = before.fib; due = before.due; spare = before.spare }
 
-  told_out : is_some (out_slot n before.undone) ≡ is_out (outcome_of past n)
+  told_out : is_some (out_task n before.undone) ≡ is_out (outcome_of past n)
   told_out = sym (any_found (is_out_as n) before.undone) ∙ (tells past counted refl (record { undone = stands.undone; fib = stands.fib; due = stands.due })).out n lawful.1
 
-  abbrev turn : Turn
+  abbrev turn : JobUpdate
   turn = record { number = n; outcome = reported said; now = now }
 
   unknown : answer ≡ reply.NotOut → is_out (outcome_of past n) ≡ false → StandsFor after (event (Report n said now) answer ∷ past)
   unknown told in_no_hand =
-      let nothing : out_slot n before.undone ≡ None = none_of (out_slot n before.undone) (told_out ∙ in_no_hand) in
+      let nothing : out_task n before.undone ≡ None = none_of (out_task n before.undone) (told_out ∙ in_no_hand) in
       none_follows config (Report n said now) answer past lawful (subst IsInert (sym told) (record { began = refl; params_set = refl; announced = refl; done = refl; left = refl; flushed = refl; halt_done = refl; no_memory = refl })) before after stands
-      (ap (λ r. turn_of (event (Report n said now) r)) told) (λ session. refl) (record {
+      (ap (λ r. update_of (event (Report n said now) r)) told) (λ session. refl) (record {
         workers = leaves.workers;
         undone = leaves.undone ∙ ap (undone_after_report before.undone) nothing;
         fib = leaves.fib ∙ ap (fib_after_report said before.fib) nothing;
         due = λ session. leaves.due session ∙ ap (λ o. due_for before.due session ++ reported_results session said now o) nothing ∙ append-nil (due_for before.due session);
       })
 
-  known : answer ≡ reply.Reported → (t : Task) → task_at n (tasks past) ≡ Some t → out_slot n before.undone ≡ Some (as_wanted past (slot_at past t)) → StandsFor after (event (Report n said now) answer ∷ past)
+  known : answer ≡ reply.Reported → (t : Task) → task_at n (tasks past) ≡ Some t → out_task n before.undone ≡ Some (as_wanted past (tracked_at past t)) → StandsFor after (event (Report n said now) answer ∷ past)
   known told t of_it there =
-      let same : (as_wanted past (slot_at past t)).task.job ≡ t.job = job_wanted past (slot_at past t) in
-      let numbered : (as_wanted past (slot_at past t)).task.job.number ≡ n = ap (λ (job : Job). job.number) same ∙ sym (number_same n t.job.number (found_it (λ other. number_eq n other.job.number) (tasks past) t of_it)) in
+      let same : (as_wanted past (tracked_at past t)).task.job ≡ t.job = job_wanted past (tracked_at past t) in
+      let numbered : (as_wanted past (tracked_at past t)).task.job.number ≡ n = ap (λ (job : Job). job.number) same ∙ sym (number_same n t.job.number (found_it (λ other. number_eq n other.job.number) (tasks past) t of_it)) in
       done_follows config (Report n said now) answer past lawful (subst IsInert (sym told) (record { began = refl; params_set = refl; announced = refl; done = refl; left = refl; flushed = refl; halt_done = refl; no_memory = refl })) before after stands
-      (λ session. refl) turn (ap (λ r. turn_of (event (Report n said now) r)) told) (slot_at past t) (said_done said) of_it (record {
+      (λ session. refl) turn (ap (λ r. update_of (event (Report n said now) r)) told) (tracked_at past t) (said_done said) of_it (record {
         workers = leaves.workers;
         undone = leaves.undone ∙ ap (undone_after_report before.undone) there ∙ ap (λ m. without m before.undone) numbered;
-        fib = leaves.fib ∙ ap (fib_after_report said before.fib) there ∙ said_fib said before.fib (slot_at past t) _ same;
+        fib = leaves.fib ∙ ap (fib_after_report said before.fib) there ∙ said_fib said before.fib (tracked_at past t) _ same;
         due = λ session. leaves.due session ∙ ap (λ o. due_for before.due session ++ reported_results session said now o) there;
       })
 
@@ -290,18 +290,18 @@ module _ (config : Config) (tells : BoardsTell config) (past : List Event) (befo
   by_out false in_no_hand told = unknown told in_no_hand
   by_out true out told = by_task (task_at n (tasks past)) refl
     where
-      there : out_slot n before.undone ≡ option_map (λ t. as_wanted past (slot_at past t)) (task_at n (tasks past))
-      there = ap (out_slot n) stands.undone ∙ slot_out past n out
+      there : out_task n before.undone ≡ option_map (λ t. as_wanted past (tracked_at past t)) (task_at n (tasks past))
+      there = ap (out_task n) stands.undone ∙ tracked_out past n out
 
       by_task : (o : Option Task) → task_at n (tasks past) ≡ o → StandsFor after (event (Report n said now) answer ∷ past)
-      by_task None missing = let no_way : false ≡ true = sym (ap is_some (there ∙ ap (option_map (λ t. as_wanted past (slot_at past t))) missing)) ∙ told_out ∙ out in cc
-      by_task (Some t) of_it = known told t of_it (there ∙ ap (option_map (λ t. as_wanted past (slot_at past t))) of_it)
+      by_task None missing = let no_way : false ≡ true = sym (ap is_some (there ∙ ap (option_map (λ t. as_wanted past (tracked_at past t))) missing)) ∙ told_out ∙ out in cc
+      by_task (Some t) of_it = known told t of_it (there ∙ ap (option_map (λ t. as_wanted past (tracked_at past t))) of_it)
 
   pub report_stands : StandsFor after (event (Report n said now) answer ∷ past)
   unfolding reply_to
   report_stands = by_out (is_out (outcome_of past n)) refl lawful.0
 
-pub reports_follow : (config : Config) → BoardsTell config → ReportsFollow config
+pub reports_follow : (config : Config) → BoardAnswersAsHistory config → ReportsFollow config
 reports_follow config tells past before after n said now answer lawful stands leaves = report_stands config tells past before after n said now answer lawful stands leaves
 
 -- A session collects.
@@ -316,8 +316,8 @@ given_is past session left given true gone told = cc
 given_is past session left given false true told = cc
 given_is past session left given false false told = ap batch_in told
 
-module _ (config : Config) (past : List Event) (before after : Ledger) (session left : ℕ) (given : List FibResult)
-    (lawful : IsLawful config (event (Collect session) (reply.Collected given left) ∷ past)) (stands : StandsFor before past) (leaves : CollectLeaves session before after) where
+module _ (config : Config) (past : List Event) (before after : BoardState) (session left : ℕ) (given : List FibResult)
+    (lawful : IsLawful config (event (Collect session) (reply.Collected given left) ∷ past)) (stands : StandsFor before past) (leaves : AfterCollect session before after) where
   is_batch : given ≡ batch past session
   unfolding reply_to
   is_batch = given_is past session left given (is_halted past) (is_gone past (Collect session)) lawful.0

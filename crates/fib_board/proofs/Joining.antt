@@ -19,9 +19,9 @@ use Rattle.table_model.specs.declared.job.NewJob.{NewJob}
 use Rattle.table_model.specs.declared.job.Work.{Work}
 use Rattle.table_model.specs.declared.reply.Reply.TheVariants as reply
 use Rattle.table_model.specs.Event.{Event}
-use Rattle.table_model.specs.Jobs.{Task, Slot, Waiting, tasks, tasks_by, turn_of, slots, purge_task, operate_tasks, work_of, work_key, refs_before, removed, purge_tasks, purge_order, outcome_of}
+use Rattle.table_model.specs.Jobs.{Task, TrackedTask, Waiting, tasks, tasks_by, update_of, tracked_tasks, purge_task, operate_tasks, work_of, work_key, refs_before, removed, purge_tasks, purge_order, outcome_of}
 use Rattle.table_model.specs.Laws.{event}
-use Rattle.table_model.specs.Ledger.{Ledger, StandsFor, as_wanted, is_owner_live, is_kept, undone_slots, due_for, due_of}
+use Rattle.table_model.specs.BoardState.{BoardState, StandsFor, as_wanted, is_owner_live, is_undone_task, undone_tasks, due_for, due_of}
 use Rattle.table_model.specs.Legal.{IsLawful}
 use Rattle.table_model.specs.Results.{results, taken}
 use Rattle.table_model.specs.Rib.{rib, purges}
@@ -33,11 +33,11 @@ use Rattle.table_laws.proofs.Acknowledged.{where_due}
 use Rattle.table_laws.proofs.Ascending.{is_from, made_of}
 use Rattle.table_laws.proofs.InTurn.{wait_ahead, from_le}
 use Rattle.table_laws.proofs.Reports.{fib_next}
-use Rattle.table_laws.proofs.Turns.{slot_at}
-use Rattle.fib_board.specs.Follows.{Leaves, AddLeaves, AddsFollow, ForgetsFollow, LeavesFollow, FlushesFollow, made_by}
+use Rattle.table_laws.proofs.Updates.{tracked_at}
+use Rattle.fib_board.specs.Follows.{BoardStateIs, AfterAdd, AddsFollow, ForgetsFollow, LeavesFollow, FlushesFollow, made_by}
 use Rattle.fib_board.specs.Steps.{waiting, unwanted, due_after_forget}
 use Rattle.fib_board.proofs.Finding.{any_found}
-use Rattle.fib_board.proofs.Standing.{and_false, with_wants, with_outcome, same_wanted, same_alive, stay_slots, due_stays}
+use Rattle.fib_board.proofs.Standing.{and_false, with_wants, with_outcome, same_wanted, same_alive, tracked_stay, due_stays}
 
 and_true : (b : Bool) → b && true ≡ b
 and_true true = refl
@@ -45,39 +45,39 @@ and_true false = refl
 
 -- The jobs that an event makes wait behind the others.
 
-abbrev waits : Task → Slot
+abbrev waits : Task → TrackedTask
 waits task = record { task = task; outcome = Waiting }
 
-kept_waits : (ts : List Task) → filter is_kept (map waits ts) ≡ map waits ts
+kept_waits : (ts : List Task) → filter is_undone_task (map waits ts) ≡ map waits ts
 kept_waits [] = refl
 kept_waits (t ∷ ts) = ap (λ l. waits t ∷ l) (kept_waits ts)
 
-module _ (config : Config) (e : Event) (past : List Event) (lawful : IsLawful config (e ∷ past)) (none : turn_of e ≡ None) where
-  waiting_slots : (ts : List Task) → list_all (is_from (length past) 0) ts ≡ true → map (slot_at past) ts ≡ map waits ts
-  waiting_slots [] from = refl
-  waiting_slots (t ∷ ts) from =
+module _ (config : Config) (e : Event) (past : List Event) (lawful : IsLawful config (e ∷ past)) (none : update_of e ≡ None) where
+  waiting_tasks : (ts : List Task) → list_all (is_from (length past) 0) ts ≡ true → map (tracked_at past) ts ≡ map waits ts
+  waiting_tasks [] from = refl
+  waiting_tasks (t ∷ ts) from =
       let here : outcome_of past t.job.number ≡ Waiting = wait_ahead config past lawful.1 t.job.number (from_le (length past) t (and_left (is_from (length past) 0 t) (list_all (is_from (length past) 0) ts) from)) in
-      rw (waiting_slots ts (and_right (is_from (length past) 0 t) (list_all (is_from (length past) 0) ts) from)) (ap (λ o. with_outcome t o ∷ map waits ts) here)
+      rw (waiting_tasks ts (and_right (is_from (length past) 0 t) (list_all (is_from (length past) 0) ts) from)) (ap (λ o. with_outcome t o ∷ map waits ts) here)
 
-  slots_joined : slots (e ∷ past) ≡ map (slot_at past) (tasks past) ++ map waits (tasks_by e past)
-  unfolding slots tasks
-  slots_joined =
-      stay_slots e past none (tasks past ++ tasks_by e past)
-      ∙ map-append (slot_at past) (tasks past) (tasks_by e past)
-      ∙ ap (λ l. map (slot_at past) (tasks past) ++ l) (waiting_slots (tasks_by e past) (made_of e past).here)
+  tracked_joined : tracked_tasks (e ∷ past) ≡ map (tracked_at past) (tasks past) ++ map waits (tasks_by e past)
+  unfolding tracked_tasks tasks
+  tracked_joined =
+      tracked_stay e past none (tasks past ++ tasks_by e past)
+      ∙ map-append (tracked_at past) (tasks past) (tasks_by e past)
+      ∙ ap (λ l. map (tracked_at past) (tasks past) ++ l) (waiting_tasks (tasks_by e past) (made_of e past).here)
 
-  undone_joined : undone_slots (e ∷ past) ≡ undone_slots past ++ map waits (tasks_by e past)
-  unfolding undone_slots slots
+  undone_joined : undone_tasks (e ∷ past) ≡ undone_tasks past ++ map waits (tasks_by e past)
+  unfolding undone_tasks tracked_tasks
   undone_joined =
-      ap (filter is_kept) slots_joined
-      ∙ filter-append is_kept (map (slot_at past) (tasks past)) (map waits (tasks_by e past))
-      ∙ ap (λ l. filter is_kept (map (slot_at past) (tasks past)) ++ l) (kept_waits (tasks_by e past))
+      ap (filter is_undone_task) tracked_joined
+      ∙ filter-append is_undone_task (map (tracked_at past) (tasks past)) (map waits (tasks_by e past))
+      ∙ ap (λ l. filter is_undone_task (map (tracked_at past) (tasks past)) ++ l) (kept_waits (tasks_by e past))
 
   -- the slots of both, as they are wanted
-  wanted_joined : (h : List Event) (joined : List Slot) → map (as_wanted h) (map waits (tasks_by e past)) ≡ joined → map (as_wanted h) (undone_slots past) ++ joined ≡ map (as_wanted h) (undone_slots (e ∷ past))
+  wanted_joined : (h : List Event) (joined : List TrackedTask) → map (as_wanted h) (map waits (tasks_by e past)) ≡ joined → map (as_wanted h) (undone_tasks past) ++ joined ≡ map (as_wanted h) (undone_tasks (e ∷ past))
   wanted_joined h joined is =
-      ap (λ l. map (as_wanted h) (undone_slots past) ++ l) (sym is)
-      ∙ sym (map-append (as_wanted h) (undone_slots past) (map waits (tasks_by e past)))
+      ap (λ l. map (as_wanted h) (undone_tasks past) ++ l) (sym is)
+      ∙ sym (map-append (as_wanted h) (undone_tasks past) (map waits (tasks_by e past)))
       ∙ ap (map (as_wanted h)) (sym undone_joined)
 
 -- An accepted operation adds its job.
@@ -98,9 +98,9 @@ owned_by past session operation now task = by_work (work_of operation.ask)
     by_work None is = cc
     by_work (Some work) is = let one : task_of work ≡ task = cc in sym (ap (λ (t : Task). t.owner) one)
 
-module _ (config : Config) (past : List Event) (before after : Ledger) (session : ℕ) (operation : Operation) (now : ℤ) (made : NewJob)
+module _ (config : Config) (past : List Event) (before after : BoardState) (session : ℕ) (operation : Operation) (now : ℤ) (made : NewJob)
     (lawful : IsLawful config (event (Operate session operation now) reply.RibDone ∷ past)) (one_made : operate_tasks past (Operate session operation now) ≡ (waiting made).task ∷ [])
-    (stands : StandsFor before past) (leaves : AddLeaves made before after) where
+    (stands : StandsFor before past) (leaves : AfterAdd made before after) where
   abbrev add : Event
   add = event (Operate session operation now) reply.RibDone
 
@@ -120,7 +120,7 @@ module _ (config : Config) (past : List Event) (before after : Ledger) (session 
     undone = leaves.undone
         ∙ ap (λ l. l ++ waiting made ∷ []) stands.undone
         ∙ wanted_joined config add past lawful refl past (waiting made ∷ []) (ap (λ ts. map (as_wanted past) (map waits ts)) one_made ∙ ap (λ s. s ∷ []) still_wanted)
-        ∙ sym (same_wanted (add ∷ past) past same_live (undone_slots (add ∷ past)));
+        ∙ sym (same_wanted (add ∷ past) past same_live (undone_tasks (add ∷ past)));
     fib = leaves.fib ∙ stands.fib ∙ sym (fib_next config add past lawful);
     due = λ other. leaves.due other ∙ stands.due other ∙ sym (due_stays config add past lawful.1 other (same_alive (add ∷ past) past same_live other) refl refl);
   }
@@ -135,9 +135,9 @@ unfolding as_wanted
 unwished h position index [] = refl
 unwished h position index (entry ∷ gone) = ap (λ l. waits (purge_task position index entry) ∷ l) (unwished h position (suc index) gone)
 
-module _ (config : Config) (past : List Event) (before after : Ledger) (by : FlushBy) (which : Which) (now : ℤ) (remain : Bool)
+module _ (config : Config) (past : List Event) (before after : BoardState) (by : FlushBy) (which : Which) (now : ℤ) (remain : Bool)
     (lawful : IsLawful config (event (Flush by which now) (reply.Flushed remain) ∷ past)) (stands : StandsFor before past)
-    (leaves : Leaves after before.workers (before.undone ++ made_by (event (Flush by which now) (reply.Flushed remain)) past) before.fib (due_for before.due)) where
+    (leaves : BoardStateIs after before.workers (before.undone ++ made_by (event (Flush by which now) (reply.Flushed remain)) past) before.fib (due_for before.due)) where
   abbrev flush : Event
   flush = event (Flush by which now) (reply.Flushed remain)
 
@@ -150,7 +150,7 @@ module _ (config : Config) (past : List Event) (before after : Ledger) (by : Flu
     undone = leaves.undone
         ∙ ap (λ l. l ++ made_by flush past) stands.undone
         ∙ wanted_joined config flush past lawful refl past (made_by flush past) (unwished past (length past) 0 _)
-        ∙ sym (same_wanted (flush ∷ past) past live_stays (undone_slots (flush ∷ past)));
+        ∙ sym (same_wanted (flush ∷ past) past live_stays (undone_tasks (flush ∷ past)));
     fib = leaves.fib ∙ stands.fib ∙ sym (fib_next config flush past lawful);
     due = λ other. leaves.due other ∙ stands.due other ∙ sym (due_stays config flush past lawful.1 other (same_alive (flush ∷ past) past live_stays other) refl refl);
   }
@@ -160,9 +160,9 @@ flushes_follow config past before after by which now remain lawful stands leaves
 
 -- A session leaves.
 
-module _ (config : Config) (past : List Event) (before after : Ledger) (session : ℕ)
+module _ (config : Config) (past : List Event) (before after : BoardState) (session : ℕ)
     (lawful : IsLawful config (event (Leave session) reply.Left ∷ past)) (stands : StandsFor before past)
-    (leaves : Leaves after before.workers (map (unwanted session) before.undone ++ made_by (event (Leave session) reply.Left) past) before.fib (λ other. due_after_forget session other (due_for before.due other))) where
+    (leaves : BoardStateIs after before.workers (map (unwanted session) before.undone ++ made_by (event (Leave session) reply.Left) past) before.fib (λ other. due_after_forget session other (due_for before.due other))) where
   abbrev leave : Event
   leave = event (Leave session) reply.Left
 
@@ -201,11 +201,11 @@ module _ (config : Config) (past : List Event) (before after : Ledger) (session 
       table true false c = refl
       table false b c = refl
 
-  wanted_after : (slot : Slot) → unwanted session (as_wanted past slot) ≡ as_wanted (leave ∷ past) slot
+  wanted_after : (tracked : TrackedTask) → unwanted session (as_wanted past tracked) ≡ as_wanted (leave ∷ past) tracked
   unfolding as_wanted
-  wanted_after slot = ap (with_wants slot) (sym (wish_after slot.task.wants slot.task.owner))
+  wanted_after tracked = ap (with_wants tracked) (sym (wish_after tracked.task.wants tracked.task.owner))
 
-  all_wanted : (xs : List Slot) → map (unwanted session) (map (as_wanted past) xs) ≡ map (as_wanted (leave ∷ past)) xs
+  all_wanted : (xs : List TrackedTask) → map (unwanted session) (map (as_wanted past) xs) ≡ map (as_wanted (leave ∷ past)) xs
   all_wanted [] = refl
   all_wanted (x ∷ xs) = rw (wanted_after x, all_wanted xs) refl
 
@@ -226,7 +226,7 @@ module _ (config : Config) (past : List Event) (before after : Ledger) (session 
   leave_stands = record {
     undone = leaves.undone
         ∙ ap (λ l. map (unwanted session) l ++ made_by leave past) stands.undone
-        ∙ ap (λ l. l ++ made_by leave past) (all_wanted (undone_slots past))
+        ∙ ap (λ l. l ++ made_by leave past) (all_wanted (undone_tasks past))
         ∙ wanted_joined config leave past lawful refl (leave ∷ past) (made_by leave past) (unwished (leave ∷ past) (length past) 0 _);
     fib = leaves.fib ∙ stands.fib ∙ sym (fib_next config leave past lawful);
     due = λ other. leaves.due other ∙ ap (due_after_forget session other) (stands.due other) ∙ sym (due_left other);

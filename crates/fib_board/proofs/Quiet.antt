@@ -15,8 +15,8 @@ use Rattle.table_model.specs.declared.reply.Reply.{Reply}
 use Rattle.table_model.specs.declared.reply.Reply.TheVariants as reply
 use Rattle.table_model.specs.declared.results.FibResult.{FibResult}
 use Rattle.table_model.specs.Event.{Event, is_began, is_done, is_left, is_flushed}
-use Rattle.table_model.specs.Jobs.{Task, Turn, Slot, tasks, tasks_by, slots, turn_of, operate_tasks, work_of, work_key, refs_before, purge_tasks, purge_order, removed, number_eq, is_undone}
-use Rattle.table_model.specs.Ledger.{Ledger, StandsFor, as_wanted, is_owner_live, is_kept, undone_slots, due_of}
+use Rattle.table_model.specs.Jobs.{Task, JobUpdate, TrackedTask, tasks, tasks_by, tracked_tasks, update_of, operate_tasks, work_of, work_key, refs_before, purge_tasks, purge_order, removed, number_eq, is_undone}
+use Rattle.table_model.specs.BoardState.{BoardState, StandsFor, as_wanted, is_owner_live, is_undone_task, undone_tasks, due_of}
 use Rattle.table_model.specs.Legal.{IsLawful}
 use Rattle.table_model.specs.Reply.{caller}
 use Rattle.table_model.specs.Results.{results, result_by, taken, collected_by, wanted_by, failure}
@@ -25,9 +25,9 @@ use Rattle.table_model.specs.Sessions.{live, is_live, params_of, wants_results}
 use Rattle.table_model.specs.Table.{lookup}
 use Rattle.table_model.proofs.Lawful.{answered_live, is_live_below, is_refused}
 use Rattle.table_model.proofs.Tests.{and_left, and_right, and_both, all_weaken}
-use Rattle.table_laws.proofs.Turns.{slot_at}
+use Rattle.table_laws.proofs.Updates.{tracked_at}
 use Rattle.fib_board.specs.Follows.{QuietFollows}
-use Rattle.fib_board.proofs.Standing.{and_false, with_wants, undone_stay, due_stays, fib_by_turn}
+use Rattle.fib_board.proofs.Standing.{and_false, with_wants, undone_stay, due_stays, fib_by_update}
 
 -- the owner was a session of the first so many events
 abbrev is_owner_low : ℕ → Option ℕ → Bool
@@ -102,7 +102,7 @@ passes_found p q (x ∷ ts) t all is = by_test (q x) (passes_found p q ts t (and
     by_test true further k = let one : x ≡ t = cc in rw (← one) (and_left (p x) (list_all p ts) all)
     by_test false further k = further k
 
-none_told : (n session : ℕ) (ts : List Task) → n ≤ session → list_all (is_low n) ts ≡ true → (turn : Option Turn) → result_by session ts turn ≡ None
+none_told : (n session : ℕ) (ts : List Task) → n ≤ session → list_all (is_low n) ts ≡ true → (turn : Option JobUpdate) → result_by session ts turn ≡ None
 none_told n session ts high low None = refl
 none_told n session ts high low (Some turn) = by_undone (is_undone turn.outcome)
   where
@@ -121,13 +121,13 @@ none_yet : (config : Config) (past : List Event) (session : ℕ) → IsLawful co
 unfolding results
 none_yet config [] session lawful high = refl
 none_yet config (e ∷ past) session lawful high =
-    rw (none_yet config past session lawful.1 (omega arith), none_told (length past) session (tasks past) (omega arith) (all_low config past lawful.1) (turn_of e)) refl
+    rw (none_yet config past session lawful.1 (omega arith), none_told (length past) session (tasks past) (omega arith) (all_low config past lawful.1) (update_of e)) refl
 
 or_false : (b : Bool) → b || (false || false) ≡ b
 or_false true = refl
 or_false false = refl
 
-module _ (config : Config) (e : Event) (past : List Event) (ledger : Ledger) (lawful : IsLawful config (e ∷ past)) (none : turn_of e ≡ None) (none_made : tasks_by e past ≡ [])
+module _ (config : Config) (e : Event) (past : List Event) (ledger : BoardState) (lawful : IsLawful config (e ∷ past)) (none : update_of e ≡ None) (none_made : tasks_by e past ≡ [])
     (stays : is_left e.reply ≡ false) (untaken : (session : ℕ) → collected_by session e ≡ 0) (stands : StandsFor ledger past) where
   alive_low : (session : ℕ) → session < length past → is_live (e ∷ past) session ≡ is_live past session
   unfolding live
@@ -143,24 +143,24 @@ module _ (config : Config) (e : Event) (past : List Event) (ledger : Ledger) (la
   owner_same None low = refl
   owner_same (Some owner) low = alive_low owner (grind (arith, nat_tests))
 
-  wanted_same : (slot : Slot) → is_low (length past) slot.task ≡ true → as_wanted (e ∷ past) slot ≡ as_wanted past slot
+  wanted_same : (tracked : TrackedTask) → is_low (length past) tracked.task ≡ true → as_wanted (e ∷ past) tracked ≡ as_wanted past tracked
   unfolding as_wanted
-  wanted_same slot low = ap (λ b. with_wants slot (slot.task.wants && b)) (owner_same slot.task.owner low)
+  wanted_same tracked low = ap (λ b. with_wants tracked (tracked.task.wants && b)) (owner_same tracked.task.owner low)
 
-  all_same : (ts : List Task) → list_all (is_low (length past)) ts ≡ true → map (as_wanted (e ∷ past)) (filter is_kept (map (slot_at past) ts)) ≡ map (as_wanted past) (filter is_kept (map (slot_at past) ts))
+  all_same : (ts : List Task) → list_all (is_low (length past)) ts ≡ true → map (as_wanted (e ∷ past)) (filter is_undone_task (map (tracked_at past) ts)) ≡ map (as_wanted past) (filter is_undone_task (map (tracked_at past) ts))
   all_same [] low = refl
-  all_same (t ∷ ts) low = by_kept (is_kept (slot_at past t)) (all_same ts (and_right (is_low (length past) t) (list_all (is_low (length past)) ts) low))
+  all_same (t ∷ ts) low = by_kept (is_undone_task (tracked_at past t)) (all_same ts (and_right (is_low (length past) t) (list_all (is_low (length past)) ts) low))
     where
-      here : as_wanted (e ∷ past) (slot_at past t) ≡ as_wanted past (slot_at past t)
-      here = wanted_same (slot_at past t) (and_left (is_low (length past) t) (list_all (is_low (length past)) ts) low)
+      here : as_wanted (e ∷ past) (tracked_at past t) ≡ as_wanted past (tracked_at past t)
+      here = wanted_same (tracked_at past t) (and_left (is_low (length past) t) (list_all (is_low (length past)) ts) low)
 
-      by_kept : (b : Bool) → map (as_wanted (e ∷ past)) (filter is_kept (map (slot_at past) ts)) ≡ map (as_wanted past) (filter is_kept (map (slot_at past) ts))
-          → map (as_wanted (e ∷ past)) (cond b (slot_at past t ∷ filter is_kept (map (slot_at past) ts)) (filter is_kept (map (slot_at past) ts))) ≡ map (as_wanted past) (cond b (slot_at past t ∷ filter is_kept (map (slot_at past) ts)) (filter is_kept (map (slot_at past) ts)))
+      by_kept : (b : Bool) → map (as_wanted (e ∷ past)) (filter is_undone_task (map (tracked_at past) ts)) ≡ map (as_wanted past) (filter is_undone_task (map (tracked_at past) ts))
+          → map (as_wanted (e ∷ past)) (cond b (tracked_at past t ∷ filter is_undone_task (map (tracked_at past) ts)) (filter is_undone_task (map (tracked_at past) ts))) ≡ map (as_wanted past) (cond b (tracked_at past t ∷ filter is_undone_task (map (tracked_at past) ts)) (filter is_undone_task (map (tracked_at past) ts)))
       by_kept true rest = rw (here, rest) refl
       by_kept false rest = rest
 
-  undone_same : map (as_wanted past) (undone_slots past) ≡ map (as_wanted (e ∷ past)) (undone_slots (e ∷ past))
-  unfolding undone_slots slots
+  undone_same : map (as_wanted past) (undone_tasks past) ≡ map (as_wanted (e ∷ past)) (undone_tasks (e ∷ past))
+  unfolding undone_tasks tracked_tasks
   undone_same = sym (all_same (tasks past) (all_low config past lawful.1)) ∙ ap (map (as_wanted (e ∷ past))) (sym (undone_stay e past none_made none))
 
   drop_none : (n : ℕ) → drop {A = FibResult} n [] ≡ []
@@ -191,7 +191,7 @@ module _ (config : Config) (e : Event) (past : List Event) (ledger : Ledger) (la
   pub quiet_stands : StandsFor ledger (e ∷ past)
   quiet_stands = record {
     undone = stands.undone ∙ undone_same;
-    fib = stands.fib ∙ sym (fib_by_turn config e past lawful None none);
+    fib = stands.fib ∙ sym (fib_by_update config e past lawful None none);
     due = λ session. stands.due session ∙ due_same session;
   }
 

@@ -11,19 +11,19 @@ use Rattle.std.proofs.lemmas.List.Quantifiers.{position-Some}
 use Rattle.std.proofs.lemmas.List.Sums.{sum_by-set}
 use Rattle.std.proofs.lemmas.Option.{slice_get-get_or}
 use Rattle.table_model.specs.declared.results.FibResult.{FibResult}
-use Rattle.table_model.specs.Ledger.{Due, due_for, results_in}
+use Rattle.table_model.specs.BoardState.{DueResults, due_for, results_in}
 use Rattle.table_model.proofs.LookupLemmas.{find_filter_in, find_filter_out}
-use Rattle.fib_board.specs.Places.{due_total}
+use Rattle.fib_board.specs.BoardInvariant.{due_total}
 use Rattle.fib_board.specs.Steps.{due_after_collect, due_after_forget}
 use Rattle.fib_board.proofs.Finding.{first_is, found_at, found_none}
 
-abbrev pub is_of : ℕ → Due → Bool
+abbrev pub is_of : ℕ → DueResults → Bool
 is_of session row = row.session == session
 
 same_test : (n session other : ℕ) (b : Bool) → n ≡ session → (session == other) ≡ b → (n == other) ≡ b
 same_test n session other b is test = rw is test
 
-module _ (due : List Due) (session at : ℕ) (row : Due) (found : position (is_of session) due ≡ Some at) (is : row ≡ get_or due at row) where
+module _ (due : List DueResults) (session at : ℕ) (row : DueResults) (found : position (is_of session) due ≡ Some at) (is : row ≡ get_or due at row) where
   facts : (at < length due) × (is_of session (get_or due at row) ≡ true) × ((k : ℕ) → k < at → is_of session (get_or due k row) ≡ false)
   facts = position-Some (is_of session) due at row found
 
@@ -40,7 +40,7 @@ module _ (due : List Due) (session at : ℕ) (row : Due) (found : position (is_o
   unfolding due_for
   due_of_row = ap results_in (found_at (is_of session) due at found ∙ slice_get-get_or due at row within ∙ ap Some (sym is))
 
-  module _ (f : List FibResult → List FibResult) (y : Due) (same : y.session ≡ row.session) (now : y.results ≡ f row.results) where
+  module _ (f : List FibResult → List FibResult) (y : DueResults) (same : y.session ≡ row.session) (now : y.results ≡ f row.results) where
     pub row_changed : (other : ℕ) → due_for (set due at y) other ≡ (if session == other then f (due_for due other) else due_for due other)
     unfolding due_for
     row_changed other = by_test (session == other) refl
@@ -55,10 +55,10 @@ module _ (due : List Due) (session at : ℕ) (row : Due) (found : position (is_o
             let new : is_of other y ≡ false = same_test y.session session other false (same ∙ row_session) test in
             ap results_in (find_past (is_of other) due at y row old new)
 
-  pub total_with : (y : Due) → due_total (set due at y) + length row.results ≡ due_total due + length y.results
-  total_with y = ap (λ (r : Due). due_total (set due at y) + length r.results) is ∙ sum_by-set (λ (r : Due). length r.results) due at y row within
+  pub total_with : (y : DueResults) → due_total (set due at y) + length row.results ≡ due_total due + length y.results
+  total_with y = ap (λ (r : DueResults). due_total (set due at y) + length r.results) is ∙ sum_by-set (λ (r : DueResults). length r.results) due at y row within
 
-module _ (due : List Due) (session : ℕ) (missing : position (is_of session) due ≡ None) where
+module _ (due : List DueResults) (session : ℕ) (missing : position (is_of session) due ≡ None) where
   no_row : find (is_of session) due ≡ None
   no_row = found_none (is_of session) due missing
 
@@ -66,7 +66,7 @@ module _ (due : List Due) (session : ℕ) (missing : position (is_of session) du
   unfolding due_for
   none_due = ap results_in no_row
 
-  or_none : (o : Option Due) → option_or o None ≡ o
+  or_none : (o : Option DueResults) → option_or o None ≡ o
   or_none None = refl
   or_none (Some x) = refl
 
@@ -74,7 +74,7 @@ module _ (due : List Due) (session : ℕ) (missing : position (is_of session) du
   unfolding due_for
   row_added more other = by_test (session == other) refl
     where
-      new : Due
+      new : DueResults
       new = record { session = session; results = more }
 
       by_test : (b : Bool) → (session == other) ≡ b → due_for (due ++ new ∷ []) other ≡ due_for due other ++ (if b then more else [])
@@ -92,7 +92,7 @@ pub appended_if : (b : Bool) (xs more : List FibResult) → (if b then xs ++ mor
 appended_if true xs more = refl
 appended_if false xs more = sym (append-nil xs)
 
-pub none_to_collect : (due : List Due) (session : ℕ) → position (is_of session) due ≡ None → (other : ℕ) → due_for due other ≡ due_after_collect session other (due_for due other)
+pub none_to_collect : (due : List DueResults) (session : ℕ) → position (is_of session) due ≡ None → (other : ℕ) → due_for due other ≡ due_after_collect session other (due_for due other)
 none_to_collect due session missing other = by_test (session == other) refl
   where
     by_test : (b : Bool) → (session == other) ≡ b → due_for due other ≡ (if b then drop 256 (due_for due other) else due_for due other)
@@ -102,17 +102,17 @@ none_to_collect due session missing other = by_test (session == other) refl
         nothing ∙ sym (ap (drop 256) nothing)
     by_test false test = refl
 
-abbrev pub is_not_of : ℕ → Due → Bool
+abbrev pub is_not_of : ℕ → DueResults → Bool
 is_not_of session row = not (row.session == session)
 
-pub rows_out : (due : List Due) (session other : ℕ) → due_for (filter (is_not_of session) due) other ≡ due_after_forget session other (due_for due other)
+pub rows_out : (due : List DueResults) (session other : ℕ) → due_for (filter (is_not_of session) due) other ≡ due_after_forget session other (due_for due other)
 unfolding due_for
 rows_out due session other = by_test (session == other) refl
   where
-    drops : session ≡ other → (row : Due) → is_of other row ≡ true → is_not_of session row ≡ false
+    drops : session ≡ other → (row : DueResults) → is_of other row ≡ true → is_not_of session row ≡ false
     drops here row test = rw here (ap not test)
 
-    keeps : (session == other) ≡ false → (row : Due) → is_of other row ≡ true → is_not_of session row ≡ true
+    keeps : (session == other) ≡ false → (row : DueResults) → is_of other row ≡ true → is_not_of session row ≡ true
     keeps away row test = by_same (row.session == session) refl
       where
         by_same : (b : Bool) → (row.session == session) ≡ b → not b ≡ true
@@ -123,18 +123,18 @@ rows_out due session other = by_test (session == other) refl
     by_test true test = ap results_in (find_filter_out (is_of other) (is_not_of session) due (drops (eqb-true session other test)))
     by_test false test = ap results_in (find_filter_in (is_of other) (is_not_of session) due (keeps test))
 
-pub total_out : (due : List Due) (session : ℕ) → due_total (filter (is_not_of session) due) ≤ due_total due
+pub total_out : (due : List DueResults) (session : ℕ) → due_total (filter (is_not_of session) due) ≤ due_total due
 total_out due session =
-    let both = sum_by-filter_both (is_of session) (is_not_of session) (λ row. refl) (λ (row : Due). length row.results) due in
+    let both = sum_by-filter_both (is_of session) (is_not_of session) (λ row. refl) (λ (row : DueResults). length row.results) due in
     omega (arith, both)
 
 -- what is due to one session is due
-pub due_fits : (due : List Due) (session at : ℕ) (row : Due) → position (is_of session) due ≡ Some at → row ≡ get_or due at row → length row.results ≤ due_total due
+pub due_fits : (due : List DueResults) (session at : ℕ) (row : DueResults) → position (is_of session) due ≡ Some at → row ≡ get_or due at row → length row.results ≤ due_total due
 due_fits due session at row found is =
     let emptied = total_with due session at row found is (record { session = session; results = [] }) in
     omega (arith, emptied)
 
-pub total_less : (due : List Due) (session at : ℕ) (row : Due) → position (is_of session) due ≡ Some at → row ≡ get_or due at row → (y : Due) (n : ℕ) → y.results ≡ drop n row.results → due_total (set due at y) ≤ due_total due
+pub total_less : (due : List DueResults) (session at : ℕ) (row : DueResults) → position (is_of session) due ≡ Some at → row ≡ get_or due at row → (y : DueResults) (n : ℕ) → y.results ≡ drop n row.results → due_total (set due at y) ≤ due_total due
 total_less due session at row found is y n now =
     let all = total_with due session at row found is y in
     let short : length y.results ≤ length row.results = rw (now, length-drop n row.results) (omega arith) in

@@ -1,3 +1,3 @@
 pub mod Steps
-pub mod Places
+pub mod BoardInvariant
 pub mod Follows

@@ -2,16 +2,16 @@ ghost use Rattle.std.specs.Prelude.{◌≡◌, ◌+◌, ◌≤◌, ◌<◌, ◌+
 ghost use Rattle.std.specs.List.{list_any, list_all};
 ghost use Rattle.table_model.specs.Jobs as history;
 ghost use Rattle.table_model.specs.Laws.{left_by};
-ghost use Rattle.table_model.specs.Ledger.{due_for};
+ghost use Rattle.table_model.specs.BoardState.{due_for};
 ghost use Rattle.table_model.specs.Results.{is_awaited, failure};
 ghost use Rattle.table_model.specs.Completed.{is_none_or_reason};
-ghost use Rattle.fib_board.specs.Steps.{cost, waiting, is_before, given_for, undone_after_take, skipped_results, is_out_as, out_slot, undone_after_report, fib_after_report, reported_results, due_after_collect, due_after_forget, unwanted, fib_by};
+ghost use Rattle.fib_board.specs.Steps.{cost, waiting, is_before, given_for, undone_after_take, skipped_results, is_out_as, out_task, undone_after_report, fib_after_report, reported_results, due_after_collect, due_after_forget, unwanted, fib_by};
 
 use crate::due::{self, Row};
 use crate::ends::{discard, end, send};
-use crate::jobs::{awaited, disown, is_clear, next_place, out_place, push};
-use crate::place::{Place, add_places};
-use crate::posted::Posted;
+use crate::jobs::{awaited, drop_owner, is_clear, next_place, out_place, push};
+use crate::pending_job::PendingJob;
+use crate::place::{ResultNode, add_result_nodes};
 use aft_store::{Store, is_used, resolves};
 use std::alloc::{AllocError, Global};
 use std::marker::Model;
@@ -31,10 +31,10 @@ pub enum Given {
 #[derive(Drop)]
 pub struct Board {
     workers: u32,
-    jobs: Vec<Posted>,
+    jobs: Vec<PendingJob>,
     due: Vec<Row>,
     // Places for the results of jobs that may be added. The other lists have room for as many.
-    spare: Vec<Place>,
+    spare: Vec<ResultNode>,
     fib: Store,
     // At least as many as there are places, those of due results included.
     made: u64,
@@ -42,10 +42,10 @@ pub struct Board {
 
 impl Model for Board {
     ghost use Rattle.std.specs.Prelude.{◌<◌, vec_len, vec_capacity};
-    ghost use Rattle.table_model.specs.Ledger.{Ledger};
-    ghost use Rattle.fib_board.specs.Places.{IsRoomy};
+    ghost use Rattle.table_model.specs.BoardState.{BoardState};
+    ghost use Rattle.fib_board.specs.BoardInvariant.{HasRoom};
 
-    ghost Value = { Ledger };
+    ghost Value = { BoardState };
 
     ghost view = { λ b. record {
       workers = b.workers;
@@ -55,7 +55,7 @@ impl Model for Board {
       spare = vec_len b.spare;
     } };
 
-    ghost invariant = { λ b. (0 < b.workers) × IsRoomy b.jobs.items b.due.items (vec_len b.jobs) (vec_len b.spare) (vec_capacity b.jobs) (vec_len b.due) (vec_capacity b.due) b.fib.spare b.made };
+    ghost invariant = { λ b. (0 < b.workers) × HasRoom b.jobs.items b.due.items (vec_len b.jobs) (vec_len b.spare) (vec_capacity b.jobs) (vec_len b.due) (vec_capacity b.due) b.fib.spare b.made };
 }
 
 impl Board {
@@ -114,7 +114,7 @@ impl Board {
         ensures spare { self.old.spare ≤ self.new.spare + cost job }
     {
         match self.spare.pop() {
-            Some(place) => push(&mut self.jobs, Posted::new(job, place)),
+            Some(place) => push(&mut self.jobs, PendingJob::new(job, place)),
             None => unreachable!(),
         }
     }
@@ -140,7 +140,7 @@ impl Board {
         ensures spare { self.new.spare ≡ self.old.spare }
     {
         due::forget(&mut self.due, session);
-        disown(&mut self.jobs, session);
+        drop_owner(&mut self.jobs, session);
     }
 
     /// The worker's next job. It goes out to the worker, or can't be done and is done as failed.
@@ -162,7 +162,7 @@ impl Board {
     // The job at this place, which waits, goes out or is passed over.
     fn start(&mut self, at: usize, now: i64) -> Given
         requires within { at < length self.old.undone }
-        requires waits { (slot : history.Slot) → slice_get self.old.undone at ≡ Some slot → history.is_waiting slot.outcome ≡ true }
+        requires waits { (tracked : history.TrackedTask) → slice_get self.old.undone at ≡ Some tracked → history.is_waiting tracked.outcome ≡ true }
         ensures given { result ≡ given_for self.old.fib (slice_get self.old.undone at) }
         ensures workers { self.new.workers ≡ self.old.workers }
         ensures undone { self.new.undone ≡ undone_after_take self.old.fib self.old.undone (slice_get self.old.undone at) }
@@ -171,9 +171,9 @@ impl Board {
             ≡ due_for self.old.due session ++ skipped_results session self.old.fib now (slice_get self.old.undone at) }
         ensures spare { self.old.spare ≤ self.new.spare }
     {
-        let posted = &self.jobs[at];
-        let number = posted.number();
-        match skip_reason(&self.fib, posted.work()) {
+        let pending_job = &self.jobs[at];
+        let number = pending_job.number();
+        match skip_reason(&self.fib, pending_job.work()) {
             Some(reason) => {
                 discard(end(&mut self.jobs, &mut self.due, at, Some(reason), now));
                 Given::Skipped(number)
@@ -187,10 +187,10 @@ impl Board {
     pub fn report(&mut self, job: JobNumber, verdict: Verdict, now: i64) -> bool
         ensures was_out { result ≡ list_any (is_out_as job) self.old.undone }
         ensures workers { self.new.workers ≡ self.old.workers }
-        ensures undone { self.new.undone ≡ undone_after_report self.old.undone (out_slot job self.old.undone) }
-        ensures fib { self.new.fib ≡ fib_after_report verdict self.old.fib (out_slot job self.old.undone) }
+        ensures undone { self.new.undone ≡ undone_after_report self.old.undone (out_task job self.old.undone) }
+        ensures fib { self.new.fib ≡ fib_after_report verdict self.old.fib (out_task job self.old.undone) }
         ensures due { (session : ℕ) → due_for self.new.due session
-            ≡ due_for self.old.due session ++ reported_results session verdict now (out_slot job self.old.undone) }
+            ≡ due_for self.old.due session ++ reported_results session verdict now (out_task job self.old.undone) }
         ensures spare { self.old.spare ≤ self.new.spare }
     {
         match out_place(&self.jobs, job) {
@@ -239,7 +239,7 @@ impl Board {
         self.jobs.reserve(more)?;
         self.due.reserve(all)?;
         self.fib.reserve(all as u64)?;
-        add_places(*self.jobs.allocator(), &mut self.spare, more)?;
+        add_result_nodes(*self.jobs.allocator(), &mut self.spare, more)?;
         self.made += added;
         Ok(())
     }

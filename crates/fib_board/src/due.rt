@@ -1,8 +1,8 @@
 //! The results that sessions haven't collected, in a row for each session.
 ghost use Rattle.std.specs.Prelude.{◌≡◌, ◌==◌, ◌+◌, ◌≤◌, ◌<◌, ◌^◌, ◌++◌, ◌∷◌, [], if◌then◌else◌, ℕ, drop, length, take, vec_len, vec_capacity};
 ghost use Rattle.std.specs.List.{position};
-ghost use Rattle.table_model.specs.Ledger.{due_for};
-ghost use Rattle.fib_board.specs.Places.{due_total};
+ghost use Rattle.table_model.specs.BoardState.{due_for};
+ghost use Rattle.fib_board.specs.BoardInvariant.{due_total};
 ghost use Rattle.fib_board.specs.Steps.{due_after_collect, due_after_forget};
 
 use std::alloc::Global;
@@ -18,9 +18,9 @@ pub struct Row {
 }
 
 impl Model for Row {
-    ghost use Rattle.table_model.specs.Ledger.{Due};
+    ghost use Rattle.table_model.specs.BoardState.{DueResults};
 
-    ghost Value = { Due };
+    ghost Value = { DueResults };
 
     ghost view = { λ r. record { session = r.session; results = r.results } };
 }
@@ -77,11 +77,11 @@ pub fn append(due: &mut Vec<Row>, session: u64, more: LinkedList<FibResult>)
 {
     match place_of(due, session) {
         Some(at) => due[at].append(more),
-        None => add_row(due, session, more),
+        None => add_session_results(due, session, more),
     }
 }
 
-fn add_row(due: &mut Vec<Row>, session: u64, results: LinkedList<FibResult>)
+fn add_session_results(due: &mut Vec<Row>, session: u64, results: LinkedList<FibResult>)
     requires room { vec_len due.old < vec_capacity due.old }
     ensures items { due.new.items ≡ due.old.items ++ record { session = session; results = results } ∷ [] }
     ensures len { vec_len due.new ≡ vec_len due.old + 1 }

@@ -1,23 +1,23 @@
 //! A job goes out to its worker, or ends and leaves its result.
 ghost use Rattle.std.specs.Prelude.{◌≡◌, ◌+◌, ◌≤◌, ◌<◌, ◌^◌, ◌++◌, ◌∷◌, [], ◌&&◌, ◌==◌, true, false, ℕ, Some, None, if◌then◌else◌, length, map, slice_get, vec_len, vec_capacity};
 ghost use Rattle.table_model.specs.Completed.{is_none_or_reason};
-ghost use Rattle.table_model.specs.Jobs.{Slot, is_waiting};
-ghost use Rattle.table_model.specs.Ledger.{due_for};
-ghost use Rattle.fib_board.specs.Places.{ascends, due_total};
+ghost use Rattle.table_model.specs.Jobs.{TrackedTask, is_waiting};
+ghost use Rattle.table_model.specs.BoardState.{due_for};
+ghost use Rattle.fib_board.specs.BoardInvariant.{ascends, due_total};
 ghost use Rattle.fib_board.specs.Steps.{results_with, sent, without};
 
 use crate::due::{Row, append};
-use crate::place::Place;
-use crate::posted::{Ended, Posted};
+use crate::pending_job::{Ended, PendingJob};
+use crate::place::ResultNode;
 use table_model::{FibResult, Job, Work};
 
 /// The job at this place goes out.
-pub fn send(jobs: &mut Vec<Posted>, at: usize) -> Job
+pub fn send(jobs: &mut Vec<PendingJob>, at: usize) -> Job
     requires within { at < length jobs.old.items }
-    requires waits { (slot : Slot) → slice_get jobs.old.items at ≡ Some slot → is_waiting slot.outcome ≡ true }
+    requires waits { (tracked : TrackedTask) → slice_get jobs.old.items at ≡ Some tracked → is_waiting tracked.outcome ≡ true }
     requires ascending { ascends jobs.old.items ≡ true }
-    ensures job { (slot : Slot) → slice_get jobs.old.items at ≡ Some slot → result ≡ slot.task.job }
-    ensures items { (slot : Slot) → slice_get jobs.old.items at ≡ Some slot → jobs.new.items ≡ map (sent slot.task.job.number) jobs.old.items }
+    ensures job { (tracked : TrackedTask) → slice_get jobs.old.items at ≡ Some tracked → result ≡ tracked.task.job }
+    ensures items { (tracked : TrackedTask) → slice_get jobs.old.items at ≡ Some tracked → jobs.new.items ≡ map (sent tracked.task.job.number) jobs.old.items }
     ensures ascending { ascends jobs.new.items ≡ true }
     ensures len { vec_len jobs.new ≡ vec_len jobs.old }
     ensures capacity { vec_capacity jobs.new ≡ vec_capacity jobs.old }
@@ -27,7 +27,7 @@ pub fn send(jobs: &mut Vec<Posted>, at: usize) -> Job
 
 /// The job at this place is done. Its owner gets a result where it wants one.
 pub fn end(
-    jobs: &mut Vec<Posted>,
+    jobs: &mut Vec<PendingJob>,
     due: &mut Vec<Row>,
     at: usize,
     failed: Option<u8>,
@@ -38,13 +38,13 @@ pub fn end(
     requires reason { is_none_or_reason failed ≡ true }
     requires room { vec_len due.old < vec_capacity due.old }
     requires few { due_total due.old.items + 1 < 2 ^ 63 }
-    ensures work { (slot : Slot) → slice_get jobs.old.items at ≡ Some slot → result ≡ slot.task.job.work }
-    ensures items { (slot : Slot) → slice_get jobs.old.items at ≡ Some slot → jobs.new.items ≡ without slot.task.job.number jobs.old.items }
+    ensures work { (tracked : TrackedTask) → slice_get jobs.old.items at ≡ Some tracked → result ≡ tracked.task.job.work }
+    ensures items { (tracked : TrackedTask) → slice_get jobs.old.items at ≡ Some tracked → jobs.new.items ≡ without tracked.task.job.number jobs.old.items }
     ensures ascending { ascends jobs.new.items ≡ true }
     ensures len { vec_len jobs.new + 1 ≡ vec_len jobs.old }
     ensures capacity { vec_capacity jobs.new ≡ vec_capacity jobs.old }
-    ensures due { (slot : Slot) (session : ℕ) → slice_get jobs.old.items at ≡ Some slot
-        → due_for due.new.items session ≡ due_for due.old.items session ++ results_with session slot.task failed now }
+    ensures due { (tracked : TrackedTask) (session : ℕ) → slice_get jobs.old.items at ≡ Some tracked
+        → due_for due.new.items session ≡ due_for due.old.items session ++ results_with session tracked.task failed now }
     ensures total { due_total due.new.items ≤ due_total due.old.items + 1 }
     ensures rows { vec_len due.new ≤ vec_len due.old + 1 }
     ensures row_room { vec_capacity due.old ≤ vec_capacity due.new }
@@ -56,7 +56,7 @@ pub fn end(
         work,
         place,
     } = jobs.remove(at).end();
-    bring(due, owner, wants, FibResult { id, failed, now }, place);
+    add_result(due, owner, wants, FibResult { id, failed, now }, place);
     work
 }
 
@@ -64,7 +64,13 @@ pub fn end(
 pub fn discard(_work: Work) {}
 
 // The owner gets the result where it wants one.
-fn bring(due: &mut Vec<Row>, owner: Option<u64>, wants: bool, told: FibResult, place: Place)
+fn add_result(
+    due: &mut Vec<Row>,
+    owner: Option<u64>,
+    wants: bool,
+    told: FibResult,
+    place: ResultNode,
+)
     requires room { vec_len due.old < vec_capacity due.old }
     requires few { due_total due.old.items + 1 < 2 ^ 63 }
     ensures due { (session : ℕ) → due_for due.new.items session

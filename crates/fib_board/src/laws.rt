@@ -1,10 +1,10 @@
 ghost use Rattle.table_model.specs.declared.command.Config.{Config};
 ghost use Rattle.fib_board.specs.Follows.{EmptyStands, JobsAreOlder, AddsFollow, TakesFollow, ReportsFollow, CollectsFollow, ForgetsFollow, LeavesFollow, FlushesFollow, QuietFollows};
 
-use table_laws::boards_tell;
+use table_laws::board_answers_as_history;
 
 /// What each call leaves stands for the history with the call's event.
-pub fn boards_follow()
+pub fn board_follows_history()
     ensures empty { EmptyStands }
     ensures older { JobsAreOlder }
     ensures add { (config : Config) → AddsFollow config }
@@ -16,5 +16,5 @@ pub fn boards_follow()
     ensures flush { (config : Config) → FlushesFollow config }
     ensures quiet { (config : Config) → QuietFollows config }
 {
-    boards_tell();
+    board_answers_as_history();
 }

@@ -10,8 +10,8 @@ mod due;
 mod ends;
 mod jobs;
 mod laws;
+mod pending_job;
 mod place;
-mod posted;
 
 pub use board::{Board, Given};
-pub use laws::boards_follow;
+pub use laws::board_follows_history;

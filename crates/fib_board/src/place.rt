@@ -7,11 +7,11 @@ use table_model::FibResult;
 
 /// The place of one result in a list of those that are due.
 #[derive(Drop)]
-pub struct Place {
+pub struct ResultNode {
     node: LinkedList<FibResult>,
 }
 
-impl Model for Place {
+impl Model for ResultNode {
     ghost use Rattle.std.specs.Prelude.{◌≡◌, List, length};
     ghost use Rattle.table_model.specs.declared.results.FibResult.{FibResult};
 
@@ -22,22 +22,22 @@ impl Model for Place {
     ghost invariant = { λ p. length p.node ≡ 1 };
 }
 
-impl Place {
-    fn new(alloc: Global) -> Result<Place, AllocError> {
+impl ResultNode {
+    fn new(alloc: Global) -> Result<ResultNode, AllocError> {
         let mut node = LinkedList::new(alloc);
         node.push_back(FibResult {
             id: 0,
             failed: None,
             now: 0,
         })?;
-        Ok(Place { node })
+        Ok(ResultNode { node })
     }
 
     /// The place as a list of this result.
     pub fn filled(self, told: FibResult) -> LinkedList<FibResult>
         ensures { result ≡ told ∷ [] }
     {
-        let Place { mut node } = self;
+        let ResultNode { mut node } = self;
         if let Some(first) = node.front_mut() {
             *first = told;
         }
@@ -46,7 +46,11 @@ impl Place {
 }
 
 /// Adds places until there are so many. Where memory is wanting, those that were added go again.
-pub fn add_places(alloc: Global, places: &mut Vec<Place>, count: usize) -> Result<(), AllocError>
+pub fn add_result_nodes(
+    alloc: Global,
+    places: &mut Vec<ResultNode>,
+    count: usize,
+) -> Result<(), AllocError>
     requires { vec_len places.old ≤ count }
     ensures ok { OnOk result (vec_len places.new ≡ count) }
     ensures err { OnErr result (vec_len places.new ≡ vec_len places.old) }
@@ -59,13 +63,13 @@ pub fn add_places(alloc: Global, places: &mut Vec<Place>, count: usize) -> Resul
     Ok(())
 }
 
-fn grow_to(alloc: Global, places: &mut Vec<Place>, count: usize) -> Result<(), AllocError>
+fn grow_to(alloc: Global, places: &mut Vec<ResultNode>, count: usize) -> Result<(), AllocError>
     requires { vec_len places.old ≤ count }
     ensures ok { OnOk result (vec_len places.new ≡ count) }
     ensures kept { vec_len places.old ≤ vec_len places.new }
 {
     'places: while places.len() < count {
-        let place = Place::new(alloc)?;
+        let place = ResultNode::new(alloc)?;
         places.push(place)?;
     }
     Ok(())

@@ -46,20 +46,20 @@ module _ (marked : Entry → Bool) (table : List Entry) (marks : List Bool) (sam
   mark_is x is = ap (λ l. get_or l n false) same ∙ get_or_from_slice_get (map marked table) n (marked x) false (slice_get-map marked table n ∙ ap (option_map marked) is)
 
   module _ (key : Key) where
-    pub held_by : (e : Entry) → slice_get table n ≡ Some e → get_or marks n false ≡ true → refers e key ≡ true → marking.is_held marked table key ≡ true
+    pub held_by : (e : Entry) → slice_get table n ≡ Some e → get_or marks n false ≡ true → refers e key ≡ true → marking.is_referenced marked table key ≡ true
     held_by e is here named = scan_found (λ x. marked x && refers x key) table n e is (rw (sym (mark_is e is) ∙ here, named) refl)
 
-    pub not_by : (e : Entry) → slice_get table n ≡ Some e → refers e key ≡ false → marking.is_held marked (take n table) key ≡ false → marking.is_held marked (take (n + 1) table) key ≡ false
+    pub not_by : (e : Entry) → slice_get table n ≡ Some e → refers e key ≡ false → marking.is_referenced marked (take n table) key ≡ false → marking.is_referenced marked (take (n + 1) table) key ≡ false
     not_by e is free so_far =
         rw add-one (none_next (λ x. marked x && refers x key) table n so_far (λ x one. and_false (marked x) (refers x key) (ap (λ y. refers y key) (some_same x e (sym one ∙ is)) ∙ free)))
 
-    pub not_marked : get_or marks n false ≡ false → marking.is_held marked (take n table) key ≡ false → marking.is_held marked (take (n + 1) table) key ≡ false
+    pub not_marked : get_or marks n false ≡ false → marking.is_referenced marked (take n table) key ≡ false → marking.is_referenced marked (take (n + 1) table) key ≡ false
     not_marked free so_far =
         rw add-one (none_next (λ x. marked x && refers x key) table n so_far (λ x one. rw (sym (mark_is x one) ∙ free) refl))
 
 -- what a pass has done of both lists of marks
 pub record IsPassed (table : List Entry) (before after : List Bool) (n : ℕ) (more : Bool) : Type 0 where
-  pub marks : (marked : Entry → Bool) → before ≡ map marked table → after ≡ map (marking.spread marked table) (take n table)
+  pub marks : (marked : Entry → Bool) → before ≡ map marked table → after ≡ map (marking.marked_after_pass marked table) (take n table)
   pub settled : more ≡ false → after ≡ take n before
 
 same_marks : (a b : Bool) → not (beq a b) ≡ false → a ≡ b
@@ -76,8 +76,8 @@ pub none_here : (more next has had : Bool) → more ≡ false → next ≡ not (
 none_here more next has had not_yet is none = (not_yet, same_marks has had (sym is ∙ none))
 
 module _ (table : List Entry) (before after longer : List Bool) (n : ℕ) (has : Bool) where
-  pub pass_on : (more next : Bool) → n < length table → length before ≡ length table → IsPassed table before after n more → longer ≡ after ++ has ∷ [] → ((marked : Entry → Bool) (e : Entry) → before ≡ map marked table → slice_get table n ≡ Some e → has ≡ marking.spread marked table e) → (next ≡ false → (more ≡ false) × (has ≡ get_or before n false)) → IsPassed table before longer (n + 1) next
+  pub pass_on : (more next : Bool) → n < length table → length before ≡ length table → IsPassed table before after n more → longer ≡ after ++ has ∷ [] → ((marked : Entry → Bool) (e : Entry) → before ≡ map marked table → slice_get table n ≡ Some e → has ≡ marking.marked_after_pass marked table e) → (next ≡ false → (more ≡ false) × (has ≡ get_or before n false)) → IsPassed table before longer (n + 1) next
   pass_on more next lt len passed more_is reached settled = record {
-    marks = λ marked same. more_is ∙ rw (passed.marks marked same, add-one) (grown_at (marking.spread marked table) table n has lt (λ x is. reached marked x same is));
+    marks = λ marked same. more_is ∙ rw (passed.marks marked same, add-one) (grown_at (marking.marked_after_pass marked table) table n has lt (λ x is. reached marked x same is));
     settled = λ e. let now : (more ≡ false) × (has ≡ get_or before n false) = settled e in more_is ∙ rw (passed.settled now.0, now.1) (sym (take_more before n false (omega arith)));
   }

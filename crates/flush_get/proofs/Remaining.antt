@@ -8,7 +8,7 @@ use Rattle.aft_entries.specs.declared.entry.Entry.{Entry}
 use Rattle.aft_store.proofs.Scans.{scan_found, scan_more}
 use Rattle.table_model.specs.declared.command.Which.{Which}
 use Rattle.table_model.specs.Table.{stays, names, remains}
-use Rattle.flush_get.specs.Marking.{standing}
+use Rattle.flush_get.specs.Marking.{staying_marks}
 use Rattle.flush_get.proofs.Passing.{mark_is, none_next, and_false}
 use Rattle.flush_get.proofs.Settling.{remains_marked}
 
@@ -16,7 +16,7 @@ use Rattle.flush_get.proofs.Settling.{remains_marked}
 abbrev pub counts : List Entry → Which → Entry → Bool
 counts table which e = stays (length table) table which e.key && names which e.key.instance
 
-module _ (table : List Entry) (which : Which) (marks : List Bool) (same : marks ≡ standing (length table) table which) (n : ℕ) (mark : Bool) (is : slice_get marks n ≡ Some mark) where
+module _ (table : List Entry) (which : Which) (marks : List Bool) (same : marks ≡ staying_marks (length table) table which) (n : ℕ) (mark : Bool) (is : slice_get marks n ≡ Some mark) where
   stays_at : (e : Entry) → slice_get table n ≡ Some e → stays (length table) table which e.key ≡ mark
   stays_at e at = sym (mark_is (λ x. stays (length table) table which x.key) table marks same n e at) ∙ get_or_from_slice_get marks n mark false is
 

@@ -8,8 +8,8 @@ use Rattle.table_model.specs.declared.command.Which.{Which}
 use Rattle.table_model.specs.Table.{stays}
 
 -- a mark where the entry stays by a chain of at most so many references
-abbrev pub standing : ℕ → List Entry → Which → List Bool
-standing n table which = map (λ e. stays n table which e.key) table
+abbrev pub staying_marks : ℕ → List Entry → Which → List Bool
+staying_marks n table which = map (λ e. stays n table which e.key) table
 
 -- the entries that have a mark
 abbrev pub chosen : List Bool → List Entry → List Entry
@@ -18,9 +18,9 @@ chosen (b ∷ marks) [] = []
 chosen (b ∷ marks) (e ∷ table) = if b then e ∷ chosen marks table else chosen marks table
 
 -- whether an entry of these refers to the key
-abbrev pub is_held : (Entry → Bool) → List Entry → Key → Bool
-is_held marked table key = list_any (λ e. marked e && refers e key) table
+abbrev pub is_referenced : (Entry → Bool) → List Entry → Key → Bool
+is_referenced marked table key = list_any (λ e. marked e && refers e key) table
 
 -- a mark where there was one, or where a marked entry refers to the key
-abbrev pub spread : (Entry → Bool) → List Entry → Entry → Bool
-spread marked table entry = marked entry || is_held marked table entry.key
+abbrev pub marked_after_pass : (Entry → Bool) → List Entry → Entry → Bool
+marked_after_pass marked table entry = marked entry || is_referenced marked table entry.key

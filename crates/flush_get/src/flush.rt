@@ -12,7 +12,7 @@ use table_model::Which;
 /// whether an entry of a named instance is among them, and takes no memory.
 pub fn mark_flush(store: &Store, which: Which, marks: &mut Marks) -> bool
     requires { length store.now.entries ≤ marks.old.room }
-    ensures values { marks.new.values ≡ marking.standing (length store.now.entries) store.now.entries which }
+    ensures values { marks.new.values ≡ marking.staying_marks (length store.now.entries) store.now.entries which }
     ensures marked { spec.kept store.now.entries which ≡ marking.chosen marks.new.values store.now.entries }
     ensures remain { result ≡ spec.remains store.now.entries which }
     ensures room { marks.new.room ≡ marks.old.room }
@@ -24,7 +24,7 @@ pub fn mark_flush(store: &Store, which: Which, marks: &mut Marks) -> bool
 // After n passes all is marked that a chain of at most n references reaches. Where one brings no mark, none after it does.
 fn mark_reached(store: &Store, which: Which, marks: &mut Marks)
     requires { length store.now.entries ≤ marks.old.room }
-    ensures values { marks.new.values ≡ marking.standing (length store.now.entries) store.now.entries which }
+    ensures values { marks.new.values ≡ marking.staying_marks (length store.now.entries) store.now.entries which }
     ensures room { marks.new.room ≡ marks.old.room }
 {
     marks.start(store, which);
@@ -37,7 +37,7 @@ fn mark_reached(store: &Store, which: Which, marks: &mut Marks)
 
 // Whether an entry of a named instance has a mark.
 fn is_marked(store: &Store, which: Which, marks: &Marks) -> bool
-    requires { marks.now.values ≡ marking.standing (length store.now.entries) store.now.entries which }
+    requires { marks.now.values ≡ marking.staying_marks (length store.now.entries) store.now.entries which }
     ensures { result ≡ spec.remains store.now.entries which }
 {
     for n in 0..store.len() {

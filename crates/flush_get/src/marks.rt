@@ -3,7 +3,7 @@ ghost use Rattle.std.specs.Prelude.{◌≡◌, ◌≤◌, ◌<◌, [], Bool, fal
 ghost use Rattle.aft_entries.specs.declared.entry.Entry.{Entry};
 ghost use Rattle.flush_get.specs.Marking as marking;
 
-use crate::passes::{mark_held, mark_others};
+use crate::passes::{mark_others, mark_referenced};
 use aft_store::Store;
 use std::alloc::{AllocError, Global};
 use std::marker::Model;
@@ -21,9 +21,9 @@ pub struct Marks {
 
 impl Model for Marks {
     ghost use Rattle.std.specs.Prelude.{◌≤◌, vec_capacity};
-    ghost use Rattle.flush_get.specs.Marked.{Marked};
+    ghost use Rattle.flush_get.specs.MarksState.{MarksState};
 
-    ghost Value = { Marked };
+    ghost Value = { MarksState };
 
     ghost view = { λ m. record { values = m.marks.items; room = m.places } };
 
@@ -70,7 +70,7 @@ impl Marks {
     /// Marks the entries of instances that the flush doesn't name.
     pub(crate) fn start(&mut self, store: &Store, which: Which)
         requires { length store.now.entries ≤ self.old.room }
-        ensures values { self.new.values ≡ marking.standing 0 store.now.entries which }
+        ensures values { self.new.values ≡ marking.staying_marks 0 store.now.entries which }
         ensures room { self.new.room ≡ self.old.room }
     {
         mark_others(store, which, &mut self.marks);
@@ -80,11 +80,11 @@ impl Marks {
     pub(crate) fn pass(&mut self, store: &Store) -> bool
         requires values { length self.old.values ≡ length store.now.entries }
         requires room { length store.now.entries ≤ self.old.room }
-        ensures values { (marked : Entry → Bool) → self.old.values ≡ map marked store.now.entries → self.new.values ≡ map (marking.spread marked store.now.entries) store.now.entries }
+        ensures values { (marked : Entry → Bool) → self.old.values ≡ map marked store.now.entries → self.new.values ≡ map (marking.marked_after_pass marked store.now.entries) store.now.entries }
         ensures settled { result ≡ false → self.new.values ≡ self.old.values }
         ensures room { self.new.room ≡ self.old.room }
     {
         std::mem::swap(&mut self.marks, &mut self.earlier);
-        mark_held(store, &self.earlier, &mut self.marks)
+        mark_referenced(store, &self.earlier, &mut self.marks)
     }
 }

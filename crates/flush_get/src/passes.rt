@@ -24,7 +24,7 @@ fn put_mark(marks: &mut Vec<bool>, mark: bool)
 /// Marks the entries of instances that the flush doesn't name.
 pub(crate) fn mark_others(store: &Store, which: Which, marks: &mut Vec<bool>)
     requires { length store.now.entries ≤ vec_capacity marks.old }
-    ensures items { marks.new.items ≡ marking.standing 0 store.now.entries which }
+    ensures items { marks.new.items ≡ marking.staying_marks 0 store.now.entries which }
     ensures capacity { vec_capacity marks.old ≤ vec_capacity marks.new }
 {
     marks.clear();
@@ -34,9 +34,9 @@ pub(crate) fn mark_others(store: &Store, which: Which, marks: &mut Vec<bool>)
 }
 
 // Whether a marked entry refers to the key.
-fn is_held(store: &Store, marks: &[bool], key: &Key) -> bool
+fn is_referenced(store: &Store, marks: &[bool], key: &Key) -> bool
     requires { length marks.now ≡ length store.now.entries }
-    ensures { (marked : Entry → Bool) → marks.now ≡ map marked store.now.entries → result ≡ marking.is_held marked store.now.entries key.now }
+    ensures { (marked : Entry → Bool) → marks.now ≡ map marked store.now.entries → result ≡ marking.is_referenced marked store.now.entries key.now }
 {
     for n in 0..store.len() {
         if marks[n as usize] && refers(store.at(n), key) {
@@ -50,16 +50,16 @@ fn is_held(store: &Store, marks: &[bool], key: &Key) -> bool
 fn is_reached(store: &Store, marks: &[bool], n: u64) -> bool
     requires len { length marks.now ≡ length store.now.entries }
     requires place { n < length store.now.entries }
-    ensures { (marked : Entry → Bool) (e : Entry) → marks.now ≡ map marked store.now.entries → slice_get store.now.entries n ≡ Some e → result ≡ marking.spread marked store.now.entries e }
+    ensures { (marked : Entry → Bool) (e : Entry) → marks.now ≡ map marked store.now.entries → slice_get store.now.entries n ≡ Some e → result ≡ marking.marked_after_pass marked store.now.entries e }
 {
-    marks[n as usize] || is_held(store, marks, &store.at(n).key)
+    marks[n as usize] || is_referenced(store, marks, &store.at(n).key)
 }
 
 /// Marks the entries that were marked, and those to which a marked entry refers. It answers whether there are more now.
-pub(crate) fn mark_held(store: &Store, before: &[bool], after: &mut Vec<bool>) -> bool
+pub(crate) fn mark_referenced(store: &Store, before: &[bool], after: &mut Vec<bool>) -> bool
     requires before { length before.now ≡ length store.now.entries }
     requires room { length store.now.entries ≤ vec_capacity after.old }
-    ensures items { (marked : Entry → Bool) → before.now ≡ map marked store.now.entries → after.new.items ≡ map (marking.spread marked store.now.entries) store.now.entries }
+    ensures items { (marked : Entry → Bool) → before.now ≡ map marked store.now.entries → after.new.items ≡ map (marking.marked_after_pass marked store.now.entries) store.now.entries }
     ensures settled { result ≡ false → after.new.items ≡ before.now }
     ensures capacity { vec_capacity after.old ≤ vec_capacity after.new }
 {

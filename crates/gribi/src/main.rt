@@ -1,7 +1,7 @@
 //! The program `gribi`: its real streams, handed to `gribi_main`.
 #![tactic(auto)]
 
-use gribi_program::{Reading, Writing, gribi_main};
+use gribi_program::{ReaderSource, WriterSink, gribi_main};
 use std::alloc::Global;
 use std::process::ExitCode;
 use std::{env, io};
@@ -25,7 +25,7 @@ fn main(rt: HostRuntime) -> ExitCode {
         // A word that isn't text is none of a command.
         Err(_) => Vec::new(alloc),
     };
-    let mut input = Reading::new(rt.reader());
-    let mut output = Writing::new(io::writer(&rt));
+    let mut input = ReaderSource::new(rt.reader());
+    let mut output = WriterSink::new(io::writer(&rt));
     ExitCode::from(gribi_main(alloc, &words, &mut input, &mut output))
 }

@@ -4,7 +4,7 @@ use Rattle.std.specs.Prelude.{All, IfSome, FitsSigned}
 use Rattle.std.specs.List.{flat_map}
 use Rattle.std.specs.Option.{option_map, option_map_or}
 use Rattle.std.proofs.lemmas.List.Concat.{flat_map-cons}
-use Rattle.proto_wire.specs.Written.{Part, Text, spelling, spelled, IsLegal}
+use Rattle.proto_wire.specs.Written.{WrittenField, Text, field_encoding, encoded_fields, IsLegal}
 use Rattle.std.specs.Int.{w64, cast_unsigned}
 use Rattle.std.proofs.lemmas.Int.{to_z-of_z}
 use Rattle.std.proofs.Math.Facts.{Fits-of_z, Fits-lt-pow}
@@ -19,19 +19,19 @@ use Rattle.proto_schema.specs.Legal.{first_fault, deeper_than}
 use Rattle.proto_schema.specs.Schema.{fields_of, kind_of}
 use Rattle.proto_schema.specs.declared.schema.MessageKind.{MessageKind}
 use Rattle.proto_schema.specs.declared.schema.FieldKind.TheVariants.{Unknown, Message}
-use Rattle.proto_schema.specs.Words.{pieces, joined_onto, message_at, repeated_at}
-use Rattle.proto_wire.specs.Fields.{Cut, fields}
-use Rattle.aft_messages.specs.Writing.{number_field}
+use Rattle.proto_schema.specs.FieldValues.{pieces, merged_onto, message_at, repeated_at}
+use Rattle.proto_wire.specs.Fields.{ParsedFields, fields}
+use Rattle.aft_messages.specs.Writing.{nonzero_uint_field}
 use Rattle.gribi_messages.specs.declared.asks.FlushResponse.{FlushResponse}
-use Rattle.gribi_messages.specs.Asks.{flush_response, flush_response_bytes}
+use Rattle.gribi_messages.specs.GetAndFlush.{flush_response, flush_response_bytes}
 use Rattle.gribi_messages.specs.declared.response.AftResult.{AftResult}
 use Rattle.gribi_messages.specs.declared.response.ModifyResponse.{ModifyResponse}
 use Rattle.gribi_messages.specs.Request.{uint128_of}
 use Rattle.gribi_messages.specs.Response.{result_bytes, uint128_bytes, result_field, params_field, election_field, response_bytes, result_of, status_of, modify_response}
-use Rattle.gribi_messages.specs.Fitting.{IsResult, IsResponse}
-use Rattle.gribi_messages.proofs.Embedded.{IsSound, number_field-len, apart, optional, many, three, first_heard, second_heard, third_heard, three_all, message_good, id_read, id_sound}
+use Rattle.gribi_messages.specs.EncodableMessages.{IsEncodableResult, IsEncodableResponse}
+use Rattle.gribi_messages.proofs.Embedded.{IsSound, nonzero_uint_field-len, apart, optional, many, three, first_scanned, second_scanned, third_scanned, three_all, message_good, id_read, id_sound}
 use Rattle.gribi_messages.proofs.Schemas.{listed_at, distinct_at}
-use Rattle.gribi_messages.proofs.ReadAgain.{Rows, keys, rows_bytes, IsFitting, one_fit, two_fit, four_fit, row_read, no_fault_in_rows, in_range, one_spelled, spelled-append, pieces-spots, cut_of, no_fault, IsGood, turned}
+use Rattle.gribi_messages.proofs.ReadAgain.{Rows, keys, rows_bytes, IsFitting, one_fit, two_fit, four_fit, row_read, no_fault_in_rows, in_range, one_spelled, encoded_fields-append, pieces-field_spans, cut_of, no_fault, IsGood, turned}
 
 fits : (n : Numbers) → IsValid n → (name : FieldName) (value : ℕ) → value < 2 ^ 64 → IsFitting (field_of n name, value)
 fits n valid name value lt = let r = in_range n name valid in (r.0, r.1, lt)
@@ -41,7 +41,7 @@ flush_rows n r = (field_of n field.FlushResponseTimestamp, cast_unsigned w64 r.t
 
 flush_bytes_are : (n : Numbers) (r : FlushResponse) → flush_response_bytes n r ≡ rows_bytes (flush_rows n r)
 unfolding flush_response_bytes flush_rows rows_bytes
-flush_bytes_are n r = ap (λ (x : List ℕ). number_field (field_of n field.FlushResponseTimestamp) (cast_unsigned w64 r.timestamp) ++ x) (sym (append-nil (number_field (field_of n field.FlushResponseResult) r.result)))
+flush_bytes_are n r = ap (λ (x : List ℕ). nonzero_uint_field (field_of n field.FlushResponseTimestamp) (cast_unsigned w64 r.timestamp) ++ x) (sym (append-nil (nonzero_uint_field (field_of n field.FlushResponseResult) r.result)))
 
 flush_fit : (n : Numbers) (r : FlushResponse) → IsValid n → FitsSigned w64 r.timestamp → r.result < 2 ^ 64 → All IsFitting (flush_rows n r)
 unfolding flush_rows
@@ -69,20 +69,20 @@ result_rows n r =
 result_is : (n : Numbers) (r : AftResult) → result_bytes n r ≡ rows_bytes (result_rows n r)
 unfolding result_bytes result_rows rows_bytes
 result_is n r =
-    let a = number_field (field_of n field.AftResultId) r.id in
-    let b = number_field (field_of n field.AftResultStatus) r.status in
-    let c = number_field (field_of n field.AftResultTimestamp) (cast_unsigned w64 r.timestamp) in
-    let d = number_field (field_of n field.AftResultReason) r.reason in
+    let a = nonzero_uint_field (field_of n field.AftResultId) r.id in
+    let b = nonzero_uint_field (field_of n field.AftResultStatus) r.status in
+    let c = nonzero_uint_field (field_of n field.AftResultTimestamp) (cast_unsigned w64 r.timestamp) in
+    let d = nonzero_uint_field (field_of n field.AftResultReason) r.reason in
     append_assoc (a ++ b) c d ∙ append_assoc a b (c ++ d) ∙ ap (λ (x : List ℕ). a ++ (b ++ (c ++ x))) (sym (append-nil d))
 
-result_fit : (n : Numbers) (r : AftResult) → IsValid n → IsResult r → All IsFitting (result_rows n r)
+result_fit : (n : Numbers) (r : AftResult) → IsValid n → IsEncodableResult r → All IsFitting (result_rows n r)
 unfolding result_rows
 result_fit n r valid h =
     four_fit (field_of n field.AftResultId, r.id) (field_of n field.AftResultStatus, r.status) (field_of n field.AftResultTimestamp, cast_unsigned w64 r.timestamp) (field_of n field.AftResultReason, r.reason)
     (fits n valid field.AftResultId r.id h.id) (fits n valid field.AftResultStatus r.status h.status)
     (fits n valid field.AftResultTimestamp (cast_unsigned w64 r.timestamp) (Fits-lt-pow (Fits-of_z h.timestamp))) (fits n valid field.AftResultReason r.reason h.reason)
 
-result_read : (n : Numbers) (r : AftResult) → IsValid n → IsResult r → result_of n (result_bytes n r) ≡ r
+result_read : (n : Numbers) (r : AftResult) → IsValid n → IsEncodableResult r → result_of n (result_bytes n r) ≡ r
 unfolding result_of result_rows
 result_read n r valid h =
     let rows = result_rows n r in
@@ -94,22 +94,22 @@ result_read n r valid h =
     let four = row_read rows 3 (0, 0) distinct fit (omega arith) in
     rw (result_is n r) (rw (one, two, three_, four, to_z-of_z w64 r.timestamp h.timestamp) refl)
 
-result_sound : (n : Numbers) (r : AftResult) → IsValid n → IsResult r → IsSound n message.AftResult (result_bytes n r)
+result_sound : (n : Numbers) (r : AftResult) → IsValid n → IsEncodableResult r → IsSound n message.AftResult (result_bytes n r)
 unfolding result_bytes
 result_sound n r valid h =
-    let a = number_field (field_of n field.AftResultId) r.id in
-    let b = number_field (field_of n field.AftResultStatus) r.status in
-    let c = number_field (field_of n field.AftResultTimestamp) (cast_unsigned w64 r.timestamp) in
-    let d = number_field (field_of n field.AftResultReason) r.reason in (
+    let a = nonzero_uint_field (field_of n field.AftResultId) r.id in
+    let b = nonzero_uint_field (field_of n field.AftResultStatus) r.status in
+    let c = nonzero_uint_field (field_of n field.AftResultTimestamp) (cast_unsigned w64 r.timestamp) in
+    let d = nonzero_uint_field (field_of n field.AftResultReason) r.reason in (
       omega (
         arith,
         length-append ((a ++ b) ++ c) d,
         length-append (a ++ b) c,
         length-append a b,
-        number_field-len (field_of n field.AftResultId) r.id,
-        number_field-len (field_of n field.AftResultStatus) r.status,
-        number_field-len (field_of n field.AftResultTimestamp) (cast_unsigned w64 r.timestamp),
-        number_field-len (field_of n field.AftResultReason) r.reason,
+        nonzero_uint_field-len (field_of n field.AftResultId) r.id,
+        nonzero_uint_field-len (field_of n field.AftResultStatus) r.status,
+        nonzero_uint_field-len (field_of n field.AftResultTimestamp) (cast_unsigned w64 r.timestamp),
+        nonzero_uint_field-len (field_of n field.AftResultReason) r.reason,
       ),
       λ base. rw (result_is n r) (no_fault_in_rows 5 n message.AftResult base (result_rows n r) (result_fit n r valid h)),
     )
@@ -120,7 +120,7 @@ status_rows : Numbers → ℕ → Rows
 status_rows n status = (field_of n field.SessionParametersResultStatus, status) ∷ []
 
 abbrev status_bytes : Numbers → ℕ → List ℕ
-status_bytes n status = number_field (field_of n field.SessionParametersResultStatus) status
+status_bytes n status = nonzero_uint_field (field_of n field.SessionParametersResultStatus) status
 
 status_is : (n : Numbers) (status : ℕ) → status_bytes n status ≡ rows_bytes (status_rows n status)
 unfolding status_rows rows_bytes
@@ -140,7 +140,7 @@ status_read n status valid lt =
 
 status_sound : (n : Numbers) (status : ℕ) → IsValid n → status < 2 ^ 64 → IsSound n message.SessionParametersResult (status_bytes n status)
 status_sound n status valid lt = (
-  omega (arith, number_field-len (field_of n field.SessionParametersResultStatus) status),
+  omega (arith, nonzero_uint_field-len (field_of n field.SessionParametersResultStatus) status),
   λ base. rw (status_is n status) (no_fault_in_rows 5 n message.SessionParametersResult base (status_rows n status) (status_fit n status valid lt)),
 )
 
@@ -155,38 +155,38 @@ params_number n = field_of n field.ModifyResponseSessionParamsResult
 abbrev election_number : Numbers → ℕ
 election_number n = field_of n field.ModifyResponseElectionId
 
-response_parts : Numbers → ModifyResponse → List Part
+response_parts : Numbers → ModifyResponse → List WrittenField
 response_parts n r =
     three (result_number n) (map (result_bytes n) r.results) (params_number n) (option_map (status_bytes n) r.params) (election_number n) (option_map (uint128_bytes n) r.election)
 
-results_spelled : (n : Numbers) (rs : List AftResult) → flat_map (result_field n) rs ≡ spelled (many (result_number n) (map (result_bytes n) rs))
+results_spelled : (n : Numbers) (rs : List AftResult) → flat_map (result_field n) rs ≡ encoded_fields (many (result_number n) (map (result_bytes n) rs))
 unfolding result_field many
 results_spelled n [] = refl
 results_spelled n (r ∷ rs) =
     flat_map-cons (result_field n) r rs ∙ ap (λ (x : List ℕ). result_field n r ++ x) (results_spelled n rs)
-    ∙ sym (flat_map-cons spelling (Text (result_number n) (result_bytes n r)) (many (result_number n) (map (result_bytes n) rs)))
+    ∙ sym (flat_map-cons field_encoding (Text (result_number n) (result_bytes n r)) (many (result_number n) (map (result_bytes n) rs)))
 
-params_spelled : (n : Numbers) (o : Option ℕ) → option_map_or (params_field n) o [] ≡ spelled (optional (params_number n) (option_map (status_bytes n) o))
+params_spelled : (n : Numbers) (o : Option ℕ) → option_map_or (params_field n) o [] ≡ encoded_fields (optional (params_number n) (option_map (status_bytes n) o))
 unfolding params_field optional
 params_spelled n None = refl
 params_spelled n (Some status) = one_spelled (Text (params_number n) (status_bytes n status))
 
-election_spelled : (n : Numbers) (o : Option ℕ) → option_map_or (election_field n) o [] ≡ spelled (optional (election_number n) (option_map (uint128_bytes n) o))
+election_spelled : (n : Numbers) (o : Option ℕ) → option_map_or (election_field n) o [] ≡ encoded_fields (optional (election_number n) (option_map (uint128_bytes n) o))
 unfolding election_field optional
 election_spelled n None = refl
 election_spelled n (Some id) = one_spelled (Text (election_number n) (uint128_bytes n id))
 
-response_spelled : (n : Numbers) (r : ModifyResponse) → response_bytes n r ≡ spelled (response_parts n r)
+response_spelled : (n : Numbers) (r : ModifyResponse) → response_bytes n r ≡ encoded_fields (response_parts n r)
 unfolding response_bytes response_parts three
 response_spelled n r =
     let a = many (result_number n) (map (result_bytes n) r.results) in
     let b = optional (params_number n) (option_map (status_bytes n) r.params) in
     let c = optional (election_number n) (option_map (uint128_bytes n) r.election) in
     rw (results_spelled n r.results, params_spelled n r.params, election_spelled n r.election)
-    (ap (λ (x : List ℕ). x ++ spelled c) (sym (spelled-append a b)) ∙ sym (spelled-append (a ++ b) c))
+    (ap (λ (x : List ℕ). x ++ encoded_fields c) (sym (encoded_fields-append a b)) ∙ sym (encoded_fields-append (a ++ b) c))
 
 -- what each part of a response is known for
-abbrev IsKnown : Numbers → Part → Type 0
+abbrev IsKnown : Numbers → WrittenField → Type 0
 IsKnown n part = IsLegal part × IsGood (deeper_than 6 n) (kind_of n message.ModifyResponse) part
 
 kind_at : (n : Numbers) → IsValid n → (i : ℕ) → i < 3 → kind_of n message.ModifyResponse (get_or (fields_of n message.ModifyResponse) i (0, Unknown)).0 ≡ (get_or (fields_of n message.ModifyResponse) i (0, Unknown)).1
@@ -198,12 +198,12 @@ known n valid name inner bytes is sound =
     let r = in_range n name valid in
     ((r.0, r.1, sound.0), message_good n message.ModifyResponse inner (field_of n name) bytes is sound)
 
-results_known : (n : Numbers) → IsValid n → (rs : List AftResult) → All IsResult rs → All (λ bytes. IsKnown n (Text (result_number n) bytes)) (map (result_bytes n) rs)
+results_known : (n : Numbers) → IsValid n → (rs : List AftResult) → All IsEncodableResult rs → All (λ bytes. IsKnown n (Text (result_number n) bytes)) (map (result_bytes n) rs)
 results_known n valid [] h = All-nil (λ bytes. IsKnown n (Text (result_number n) bytes))
 results_known n valid (r ∷ rs) h =
     All-cons (λ bytes. IsKnown n (Text (result_number n) bytes)) (result_bytes n r) (map (result_bytes n) rs)
-    (known n valid field.ModifyResponseResult message.AftResult (result_bytes n r) (kind_at n valid 0 (omega arith)) (result_sound n r valid (All-head IsResult r rs h)))
-    (results_known n valid rs (All-tail IsResult r rs h))
+    (known n valid field.ModifyResponseResult message.AftResult (result_bytes n r) (kind_at n valid 0 (omega arith)) (result_sound n r valid (All-head IsEncodableResult r rs h)))
+    (results_known n valid rs (All-tail IsEncodableResult r rs h))
 
 params_known : (n : Numbers) → IsValid n → (o : Option ℕ) → IfSome o (λ status. status < 2 ^ 64) → IfSome (option_map (status_bytes n) o) (λ bytes. IsKnown n (Text (params_number n) bytes))
 params_known n valid None h = tt
@@ -215,16 +215,16 @@ election_known n valid None h = tt
 election_known n valid (Some id) h =
     known n valid field.ModifyResponseElectionId message.Uint128 (uint128_bytes n id) (kind_at n valid 2 (omega arith)) (id_sound n id valid h)
 
-all_known : (n : Numbers) (r : ModifyResponse) → IsValid n → IsResponse r → All (IsKnown n) (response_parts n r)
+all_known : (n : Numbers) (r : ModifyResponse) → IsValid n → IsEncodableResponse r → All (IsKnown n) (response_parts n r)
 unfolding response_parts
 all_known n r valid h =
     three_all (IsKnown n) (result_number n) (params_number n) (election_number n) (map (result_bytes n) r.results) (option_map (status_bytes n) r.params) (option_map (uint128_bytes n) r.election)
     (results_known n valid r.results h.results) (params_known n valid r.params h.params) (election_known n valid r.election h.election)
 
-results_again : (n : Numbers) → IsValid n → (rs : List AftResult) → All IsResult rs → map (result_of n) (map (result_bytes n) rs) ≡ rs
+results_again : (n : Numbers) → IsValid n → (rs : List AftResult) → All IsEncodableResult rs → map (result_of n) (map (result_bytes n) rs) ≡ rs
 results_again n valid [] h = refl
 results_again n valid (r ∷ rs) h =
-    rw (result_read n r valid (All-head IsResult r rs h)) (ap (λ (x : List AftResult). r ∷ x) (results_again n valid rs (All-tail IsResult r rs h)))
+    rw (result_read n r valid (All-head IsEncodableResult r rs h)) (ap (λ (x : List AftResult). r ∷ x) (results_again n valid rs (All-tail IsEncodableResult r rs h)))
 
 params_again : (n : Numbers) → IsValid n → (o : Option ℕ) → IfSome o (λ status. status < 2 ^ 64) → option_map (status_of n) (option_map (status_bytes n) o) ≡ o
 params_again n valid None h = refl
@@ -234,7 +234,7 @@ election_again : (n : Numbers) → IsValid n → (o : Option ℕ) → IfSome o (
 election_again n valid None h = refl
 election_again n valid (Some id) h = ap Some (id_read n id valid h)
 
-pub modify_response_again : (n : Numbers) (r : ModifyResponse) → IsValid n → IsResponse r
+pub modify_response_again : (n : Numbers) (r : ModifyResponse) → IsValid n → IsEncodableResponse r
     → (first_fault n message.ModifyResponse (response_bytes n r) ≡ None) × (modify_response n (response_bytes n r) ≡ r)
 unfolding first_fault modify_response repeated_at message_at response_parts
 modify_response_again n r valid h =
@@ -254,11 +254,11 @@ modify_response_again n r valid h =
     let ba : eqb b a ≡ false = apart (a ∷ b ∷ c ∷ []) 0 1 0 distinct (omega arith) (omega arith) in
     let ca : eqb c a ≡ false = apart (a ∷ b ∷ c ∷ []) 0 2 0 distinct (omega arith) (omega arith) in
     let cb : eqb c b ≡ false = apart (a ∷ b ∷ c ∷ []) 1 2 0 distinct (omega arith) (omega arith) in
-    let one : pieces a (fields (response_bytes n r)).fields ≡ all = ap (λ (x : Cut). pieces a x.fields) cut ∙ pieces-spots a 0 parts ∙ first_heard a b c all second third ba ca in
-    let two : joined_onto None (pieces b (fields (response_bytes n r)).fields) ≡ second =
-    ap (λ (x : Cut). joined_onto None (pieces b x.fields)) cut ∙ ap (joined_onto None) (pieces-spots b 0 parts) ∙ second_heard a b c all second third (turned b a ba) cb in
-    let last : joined_onto None (pieces c (fields (response_bytes n r)).fields) ≡ third =
-    ap (λ (x : Cut). joined_onto None (pieces c x.fields)) cut ∙ ap (joined_onto None) (pieces-spots c 0 parts) ∙ third_heard a b c all second third (turned c a ca) (turned c b cb) in (
+    let one : pieces a (fields (response_bytes n r)).fields ≡ all = ap (λ (x : ParsedFields). pieces a x.fields) cut ∙ pieces-field_spans a 0 parts ∙ first_scanned a b c all second third ba ca in
+    let two : merged_onto None (pieces b (fields (response_bytes n r)).fields) ≡ second =
+    ap (λ (x : ParsedFields). merged_onto None (pieces b x.fields)) cut ∙ ap (merged_onto None) (pieces-field_spans b 0 parts) ∙ second_scanned a b c all second third (turned b a ba) cb in
+    let last : merged_onto None (pieces c (fields (response_bytes n r)).fields) ≡ third =
+    ap (λ (x : ParsedFields). merged_onto None (pieces c x.fields)) cut ∙ ap (merged_onto None) (pieces-field_spans c 0 parts) ∙ third_scanned a b c all second third (turned c a ca) (turned c b cb) in (
       no_fault 6 n message.ModifyResponse 0 parts (response_bytes n r) is legal good,
       rw (one, two, last, results_again n valid r.results h.results, params_again n valid r.params h.params, election_again n valid r.election h.election) refl,
     )

@@ -8,8 +8,8 @@ use Rattle.std.proofs.lemmas.Str.{is_utf8-from_IsUtf8}
 use Rattle.std.proofs.lemmas.Bool.{eq-eqb}
 use Rattle.std.proofs.lemmas.List.{append-nil}
 use Rattle.std.proofs.lemmas.List.Elements.{All-nil, All-cons, All-append, All-weaker, filter_map-append}
-use Rattle.proto_wire.specs.Fields.{Cut, fields, fields_from, fields_upto}
-use Rattle.proto_wire.specs.Written.{Part, Uint, Text, spelled, IsLegal}
+use Rattle.proto_wire.specs.Fields.{ParsedFields, fields, fields_from, fields_upto}
+use Rattle.proto_wire.specs.Written.{WrittenField, Uint, Text, encoded_fields, IsLegal}
 use Rattle.schema_numbers.specs.Numbers.{Numbers, field_of}
 use Rattle.schema_numbers.specs.Valid.{IsValid}
 use Rattle.schema_numbers.specs.declared.names.FieldName.{FieldName}
@@ -19,23 +19,23 @@ use Rattle.proto_schema.specs.declared.schema.MessageKind.TheVariants as message
 use Rattle.proto_schema.specs.declared.schema.FieldKind.TheVariants as kind
 use Rattle.proto_schema.specs.Schema.{fields_of, kind_of}
 use Rattle.proto_schema.specs.Legal.{first_fault, fault_within, deeper_than}
-use Rattle.proto_schema.specs.Words.{member_in, numbers, members, last_number_at, number_at}
+use Rattle.proto_schema.specs.FieldValues.{member_in, numbers, members, last_number_at, number_at}
 use Rattle.gribi_messages.specs.declared.asks.InstanceAsk.{InstanceAsk}
 use Rattle.gribi_messages.specs.declared.asks.InstanceAsk.TheVariants as ask
 use Rattle.gribi_messages.specs.declared.asks.GetRequest.{GetRequest}
-use Rattle.gribi_messages.specs.Asks.{instance_ask, instance_field, last_member_at, get_members, get_request, get_bytes}
-use Rattle.gribi_messages.specs.Fitting.{IsName, IsGet}
+use Rattle.gribi_messages.specs.GetAndFlush.{instance_ask, instance_field, last_member_at, get_members, get_request, get_bytes}
+use Rattle.gribi_messages.specs.EncodableMessages.{IsEncodableName, IsEncodableGet}
 use Rattle.gribi_messages.proofs.Schemas.{listed_at, distinct_at}
-use Rattle.gribi_messages.proofs.ReadAgain.{number_of, value_in, number_part, number_spelled, number_legal, number_good, one_spelled, spelled-append, part_numbers, part_members, numbers-append, one_number, read_number, numbers-spots, members-spots, cut_of, no_fault, IsGood, in_range}
+use Rattle.gribi_messages.proofs.ReadAgain.{number_of, value_in, number_part, number_spelled, number_legal, number_good, one_spelled, encoded_fields-append, part_numbers, part_members, numbers-append, one_number, read_number, numbers-field_spans, members-field_spans, cut_of, no_fault, IsGood, in_range}
 use Rattle.gribi_messages.proofs.Embedded.{apart}
 
 -- the member of a oneof that asks for the instances
-unfoldable pub asked : ℕ → ℕ → Option InstanceAsk → List Part
+unfoldable pub asked : ℕ → ℕ → Option InstanceAsk → List WrittenField
 asked name all None = []
 asked name all (Some ask.All) = Text all [] ∷ []
 asked name all (Some (ask.Named text)) = Text name text ∷ []
 
-pub asked_spelled : (name all : ℕ) (o : Option InstanceAsk) → option_map_or (instance_field name all) o [] ≡ spelled (asked name all o)
+pub asked_spelled : (name all : ℕ) (o : Option InstanceAsk) → option_map_or (instance_field name all) o [] ≡ encoded_fields (asked name all o)
 unfolding asked
 asked_spelled name all None = refl
 asked_spelled name all (Some ask.All) = one_spelled (Text all [])
@@ -49,7 +49,7 @@ no_members among number value = by (eqb value 0)
     by true = refl
     by false = refl
 
-pub members-append : (among : List ℕ) (xs ys : List Part) → part_members among (xs ++ ys) ≡ part_members among xs ++ part_members among ys
+pub members-append : (among : List ℕ) (xs ys : List WrittenField) → part_members among (xs ++ ys) ≡ part_members among xs ++ part_members among ys
 unfolding part_members
 members-append among xs ys = filter_map-append (λ p. member_in among (number_of p) (value_in p)) xs ys
 
@@ -89,17 +89,17 @@ all_number n = field_of n field.GetRequestAll
 abbrev aft_number : Numbers → ℕ
 aft_number n = field_of n field.GetRequestAft
 
-get_parts : Numbers → GetRequest → List Part
+get_parts : Numbers → GetRequest → List WrittenField
 get_parts n r = asked (name_number n) (all_number n) r.instance ++ number_part (aft_number n) r.aft
 
-get_spelled : (n : Numbers) (r : GetRequest) → get_bytes n r ≡ spelled (get_parts n r)
+get_spelled : (n : Numbers) (r : GetRequest) → get_bytes n r ≡ encoded_fields (get_parts n r)
 unfolding get_bytes get_parts
 get_spelled n r =
     rw (asked_spelled (name_number n) (all_number n) r.instance, number_spelled (aft_number n) r.aft)
-    (sym (spelled-append (asked (name_number n) (all_number n) r.instance) (number_part (aft_number n) r.aft)))
+    (sym (encoded_fields-append (asked (name_number n) (all_number n) r.instance) (number_part (aft_number n) r.aft)))
 
 -- what each part of a message is known for
-abbrev pub IsKnown : Numbers → MessageKind → Part → Type 0
+abbrev pub IsKnown : Numbers → MessageKind → WrittenField → Type 0
 IsKnown n m part = IsLegal part × IsGood (deeper_than 6 n) (kind_of n m) part
 
 pub text_known : (n : Numbers) (m : MessageKind) (name : FieldName) (text : List ℕ) → IsValid n → kind_of n m (field_of n name) ≡ kind.Text → IsUtf8 text → length text < 2 ^ 64 → IsKnown n m (Text (field_of n name) text)
@@ -117,7 +117,7 @@ empty_known n m name valid is =
     let r = in_range n name valid in
     ((r.0, r.1, omega arith), λ place ending. rw (is, empty_sound n (ending - 0)) refl)
 
-pub asked_known : (n : Numbers) (m : MessageKind) (name all : FieldName) (o : Option InstanceAsk) → IsValid n → kind_of n m (field_of n name) ≡ kind.Text → kind_of n m (field_of n all) ≡ kind.Message message.Empty → IfSome o IsName
+pub asked_known : (n : Numbers) (m : MessageKind) (name all : FieldName) (o : Option InstanceAsk) → IsValid n → kind_of n m (field_of n name) ≡ kind.Text → kind_of n m (field_of n all) ≡ kind.Message message.Empty → IfSome o IsEncodableName
     → All (IsKnown n m) (asked (field_of n name) (field_of n all) o)
 unfolding asked
 asked_known n m name all None valid a b h = All-nil (IsKnown n m)
@@ -128,7 +128,7 @@ kind_at : (n : Numbers) → IsValid n → (i : ℕ) → i < 3 → kind_of n mess
 unfolding kind_of
 kind_at n valid i lt = listed_at (fields_of n message.GetRequest) i (0, kind.Unknown) (distinct_at n valid 7 (omega arith)) lt
 
-pub get_again : (n : Numbers) (r : GetRequest) → IsValid n → IsGet r → (first_fault n message.GetRequest (get_bytes n r) ≡ None) × (get_request n (get_bytes n r) ≡ r)
+pub get_again : (n : Numbers) (r : GetRequest) → IsValid n → IsEncodableGet r → (first_fault n message.GetRequest (get_bytes n r) ≡ None) × (get_request n (get_bytes n r) ≡ r)
 unfolding first_fault get_request last_member_at number_at last_number_at get_parts
 get_again n r valid h =
     let a = name_number n in
@@ -147,10 +147,10 @@ get_again n r valid h =
     let cut = cut_of 0 parts (get_bytes n r) is legal in
     let ba : eqb b a ≡ false = apart (a ∷ b ∷ c ∷ []) 0 1 0 (distinct_at n valid 7 (omega arith)) (omega arith) (omega arith) in
     let told : members (get_members n) (fields (get_bytes n r)).fields ≡ part_members (a ∷ b ∷ []) first =
-    ap (λ (x : Cut). members (get_members n) x.fields) cut ∙ members-spots (get_members n) 0 parts ∙ members-append (a ∷ b ∷ []) first second
+    ap (λ (x : ParsedFields). members (get_members n) x.fields) cut ∙ members-field_spans (get_members n) 0 parts ∙ members-append (a ∷ b ∷ []) first second
     ∙ rw (no_members (a ∷ b ∷ []) c r.aft) (append-nil (part_members (a ∷ b ∷ []) first)) in
     let counted : numbers c (fields (get_bytes n r)).fields ≡ cond (eqb r.aft 0) [] (r.aft ∷ []) =
-    ap (λ (x : Cut). numbers c x.fields) cut ∙ numbers-spots c 0 parts ∙ numbers-append c first second ∙ rw (no_numbers c a b r.instance, one_number c r.aft) refl in (
+    ap (λ (x : ParsedFields). numbers c x.fields) cut ∙ numbers-field_spans c 0 parts ∙ numbers-append c first second ∙ rw (no_numbers c a b r.instance, one_number c r.aft) refl in (
       no_fault 6 n message.GetRequest 0 parts (get_bytes n r) is legal good,
       rw (told, counted, asked_again a b r.instance ba, read_number r.aft) refl,
     )

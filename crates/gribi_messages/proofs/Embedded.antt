@@ -5,7 +5,7 @@ use Rattle.std.specs.List.{list_any}
 use Rattle.std.proofs.lemmas.Bool.{eq-eqb, and_parts}
 use Rattle.std.proofs.lemmas.List.{append-nil}
 use Rattle.std.proofs.lemmas.List.Elements.{All-nil, All-cons, All-head, All-tail, All-append, filter_map-append}
-use Rattle.proto_wire.specs.Written.{varint_upto, varint, uint_field, Part, Text}
+use Rattle.proto_wire.specs.Written.{varint_upto, varint, uint_field, WrittenField, Text}
 use Rattle.schema_numbers.specs.Numbers.{Numbers, field_of}
 use Rattle.schema_numbers.specs.Valid.{IsValid, are_distinct}
 use Rattle.schema_numbers.specs.declared.names.FieldName.TheVariants as field
@@ -14,8 +14,8 @@ use Rattle.proto_schema.specs.declared.schema.MessageKind.TheVariants as message
 use Rattle.proto_schema.specs.declared.schema.FieldKind.TheVariants.{Message}
 use Rattle.proto_schema.specs.Schema.{kind_of}
 use Rattle.proto_schema.specs.Legal.{fault_within, deeper_than}
-use Rattle.proto_schema.specs.Words.{piece_in, joined_onto}
-use Rattle.aft_messages.specs.Writing.{number_field}
+use Rattle.proto_schema.specs.FieldValues.{piece_in, merged_onto}
+use Rattle.aft_messages.specs.Writing.{nonzero_uint_field}
 use Rattle.gribi_messages.specs.Request.{uint128_of}
 use Rattle.gribi_messages.specs.Response.{uint128_bytes}
 use Rattle.gribi_messages.proofs.Schemas.{not_true, or_no, distinct_at}
@@ -36,9 +36,9 @@ unless_zero-len : (b : Bool) (xs : List ℕ) → length xs ≤ 20 → length (co
 unless_zero-len true xs le = omega arith
 unless_zero-len false xs le = le
 
-pub number_field-len : (number value : ℕ) → length (number_field number value) ≤ 20
-unfolding number_field
-number_field-len number value =
+pub nonzero_uint_field-len : (number value : ℕ) → length (nonzero_uint_field number value) ≤ 20
+unfolding nonzero_uint_field
+nonzero_uint_field-len number value =
     unless_zero-len (eqb value 0) (uint_field number value) (omega (arith, length-append (varint (number * 8)) (varint value), varint_upto-len 9 (number * 8), varint_upto-len 9 value))
 
 -- ---- numbers of one message are apart
@@ -57,16 +57,16 @@ apart (n ∷ ns) (suc i) (suc j) d h lt le = apart ns i j d (and_parts (not (lis
 
 -- ---- pieces
 
-pub pieces-append : (wanted : ℕ) (xs ys : List Part) → part_pieces wanted (xs ++ ys) ≡ part_pieces wanted xs ++ part_pieces wanted ys
+pub pieces-append : (wanted : ℕ) (xs ys : List WrittenField) → part_pieces wanted (xs ++ ys) ≡ part_pieces wanted xs ++ part_pieces wanted ys
 unfolding part_pieces
 pieces-append wanted xs ys = filter_map-append (λ p. piece_in wanted (number_of p) (value_in p)) xs ys
 
 -- an embedded message, where it is there
-unfoldable pub optional : ℕ → Option (List ℕ) → List Part
+unfoldable pub optional : ℕ → Option (List ℕ) → List WrittenField
 optional number None = []
 optional number (Some bytes) = Text number bytes ∷ []
 
-pub optional_here : (number : ℕ) (bytes : Option (List ℕ)) → joined_onto None (part_pieces number (optional number bytes)) ≡ bytes
+pub optional_here : (number : ℕ) (bytes : Option (List ℕ)) → merged_onto None (part_pieces number (optional number bytes)) ≡ bytes
 unfolding part_pieces optional
 optional_here number None = refl
 optional_here number (Some bytes) = rw (eq-eqb number number refl) refl
@@ -76,7 +76,7 @@ unfolding part_pieces optional
 optional_other wanted number None h = refl
 optional_other wanted number (Some bytes) h = rw h refl
 
-unfoldable pub many : ℕ → List (List ℕ) → List Part
+unfoldable pub many : ℕ → List (List ℕ) → List WrittenField
 many number [] = []
 many number (bytes ∷ others) = Text number bytes ∷ many number others
 
@@ -107,7 +107,7 @@ id_rows n id = (field_of n field.Uint128High, id / 2 ^ 64) ∷ (field_of n field
 
 id_is : (n : Numbers) (id : ℕ) → uint128_bytes n id ≡ rows_bytes (id_rows n id)
 unfolding uint128_bytes id_rows rows_bytes
-id_is n id = ap (λ (x : List ℕ). number_field (field_of n field.Uint128High) (id / 2 ^ 64) ++ x) (sym (append-nil (number_field (field_of n field.Uint128Low) (id % 2 ^ 64))))
+id_is n id = ap (λ (x : List ℕ). nonzero_uint_field (field_of n field.Uint128High) (id / 2 ^ 64) ++ x) (sym (append-nil (nonzero_uint_field (field_of n field.Uint128Low) (id % 2 ^ 64))))
 
 id_fit : (n : Numbers) (id : ℕ) → IsValid n → id < 2 ^ 128 → All IsFitting (id_rows n id)
 unfolding id_rows
@@ -130,51 +130,51 @@ id_read n id valid lt =
 pub id_sound : (n : Numbers) (id : ℕ) → IsValid n → id < 2 ^ 128 → IsSound n message.Uint128 (uint128_bytes n id)
 unfolding uint128_bytes
 id_sound n id valid lt =
-    let high = number_field (field_of n field.Uint128High) (id / 2 ^ 64) in
-    let low = number_field (field_of n field.Uint128Low) (id % 2 ^ 64) in (
-      omega (arith, length-append high low, number_field-len (field_of n field.Uint128High) (id / 2 ^ 64), number_field-len (field_of n field.Uint128Low) (id % 2 ^ 64)),
+    let high = nonzero_uint_field (field_of n field.Uint128High) (id / 2 ^ 64) in
+    let low = nonzero_uint_field (field_of n field.Uint128Low) (id % 2 ^ 64) in (
+      omega (arith, length-append high low, nonzero_uint_field-len (field_of n field.Uint128High) (id / 2 ^ 64), nonzero_uint_field-len (field_of n field.Uint128Low) (id % 2 ^ 64)),
       λ base. rw (id_is n id) (no_fault_in_rows 5 n message.Uint128 base (id_rows n id) (id_fit n id valid lt)),
     )
 
 -- ---- a message of one repeated and two other embedded messages
 
-unfoldable pub three : ℕ → List (List ℕ) → ℕ → Option (List ℕ) → ℕ → Option (List ℕ) → List Part
+unfoldable pub three : ℕ → List (List ℕ) → ℕ → Option (List ℕ) → ℕ → Option (List ℕ) → List WrittenField
 three a all b second c third = (many a all ++ optional b second) ++ optional c third
 
-pub first_heard : (a b c : ℕ) (all : List (List ℕ)) (second third : Option (List ℕ)) → eqb b a ≡ false → eqb c a ≡ false → part_pieces a (three a all b second c third) ≡ all
+pub first_scanned : (a b c : ℕ) (all : List (List ℕ)) (second third : Option (List ℕ)) → eqb b a ≡ false → eqb c a ≡ false → part_pieces a (three a all b second c third) ≡ all
 unfolding three
-first_heard a b c all second third h i =
+first_scanned a b c all second third h i =
     pieces-append a (many a all ++ optional b second) (optional c third)
     ∙ rw (pieces-append a (many a all) (optional b second), optional_other a c third i, optional_other a b second h, many_here a all) (append-nil (all ++ []) ∙ append-nil all)
 
-pub second_heard : (a b c : ℕ) (all : List (List ℕ)) (second third : Option (List ℕ)) → eqb a b ≡ false → eqb c b ≡ false → joined_onto None (part_pieces b (three a all b second c third)) ≡ second
+pub second_scanned : (a b c : ℕ) (all : List (List ℕ)) (second third : Option (List ℕ)) → eqb a b ≡ false → eqb c b ≡ false → merged_onto None (part_pieces b (three a all b second c third)) ≡ second
 unfolding three
-second_heard a b c all second third h i =
+second_scanned a b c all second third h i =
     let e : part_pieces b ((many a all ++ optional b second) ++ optional c third) ≡ part_pieces b (optional b second) =
     pieces-append b (many a all ++ optional b second) (optional c third)
     ∙ rw (pieces-append b (many a all) (optional b second), optional_other b c third i, many_other b a all h) (append-nil (part_pieces b (optional b second))) in
-    ap (joined_onto None) e ∙ optional_here b second
+    ap (merged_onto None) e ∙ optional_here b second
 
-pub third_heard : (a b c : ℕ) (all : List (List ℕ)) (second third : Option (List ℕ)) → eqb a c ≡ false → eqb b c ≡ false → joined_onto None (part_pieces c (three a all b second c third)) ≡ third
+pub third_scanned : (a b c : ℕ) (all : List (List ℕ)) (second third : Option (List ℕ)) → eqb a c ≡ false → eqb b c ≡ false → merged_onto None (part_pieces c (three a all b second c third)) ≡ third
 unfolding three
-third_heard a b c all second third h i =
+third_scanned a b c all second third h i =
     let e : part_pieces c ((many a all ++ optional b second) ++ optional c third) ≡ part_pieces c (optional c third) =
     pieces-append c (many a all ++ optional b second) (optional c third)
     ∙ rw (pieces-append c (many a all) (optional b second), optional_other c b second i, many_other c a all h) refl in
-    ap (joined_onto None) e ∙ optional_here c third
+    ap (merged_onto None) e ∙ optional_here c third
 
-many_all : (P : Part → Type 0) (number : ℕ) (all : List (List ℕ)) → All (λ bytes. P (Text number bytes)) all → All P (many number all)
+many_all : (P : WrittenField → Type 0) (number : ℕ) (all : List (List ℕ)) → All (λ bytes. P (Text number bytes)) all → All P (many number all)
 unfolding many
 many_all P number [] h = All-nil P
 many_all P number (bytes ∷ others) h =
     All-cons P (Text number bytes) (many number others) (All-head (λ b. P (Text number b)) bytes others h) (many_all P number others (All-tail (λ b. P (Text number b)) bytes others h))
 
-optional_all : (P : Part → Type 0) (number : ℕ) (bytes : Option (List ℕ)) → IfSome bytes (λ b. P (Text number b)) → All P (optional number bytes)
+optional_all : (P : WrittenField → Type 0) (number : ℕ) (bytes : Option (List ℕ)) → IfSome bytes (λ b. P (Text number b)) → All P (optional number bytes)
 unfolding optional
 optional_all P number None h = All-nil P
 optional_all P number (Some bytes) h = All-cons P (Text number bytes) [] h (All-nil P)
 
-pub three_all : (P : Part → Type 0) (a b c : ℕ) (all : List (List ℕ)) (second third : Option (List ℕ)) → All (λ bytes. P (Text a bytes)) all → IfSome second (λ bytes. P (Text b bytes)) → IfSome third (λ bytes. P (Text c bytes))
+pub three_all : (P : WrittenField → Type 0) (a b c : ℕ) (all : List (List ℕ)) (second third : Option (List ℕ)) → All (λ bytes. P (Text a bytes)) all → IfSome second (λ bytes. P (Text b bytes)) → IfSome third (λ bytes. P (Text c bytes))
     → All P (three a all b second c third)
 unfolding three
 three_all P a b c all second third h i j =

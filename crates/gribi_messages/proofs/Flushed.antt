@@ -6,8 +6,8 @@ use Rattle.std.specs.Option.{option_map, option_map_or}
 use Rattle.std.proofs.lemmas.Bool.{eq-eqb}
 use Rattle.std.proofs.lemmas.List.{append-nil}
 use Rattle.std.proofs.lemmas.List.Elements.{All-nil, All-cons, All-append, All-weaker}
-use Rattle.proto_wire.specs.Fields.{Cut, fields}
-use Rattle.proto_wire.specs.Written.{Part, Text, spelled, IsLegal}
+use Rattle.proto_wire.specs.Fields.{ParsedFields, fields}
+use Rattle.proto_wire.specs.Written.{WrittenField, Text, encoded_fields, IsLegal}
 use Rattle.schema_numbers.specs.Numbers.{Numbers, field_of}
 use Rattle.schema_numbers.specs.Valid.{IsValid, are_distinct}
 use Rattle.schema_numbers.specs.declared.names.FieldName.TheVariants as field
@@ -15,17 +15,17 @@ use Rattle.proto_schema.specs.declared.schema.MessageKind.TheVariants as message
 use Rattle.proto_schema.specs.declared.schema.FieldKind.TheVariants as kind
 use Rattle.proto_schema.specs.Schema.{fields_of, kind_of}
 use Rattle.proto_schema.specs.Legal.{first_fault, deeper_than}
-use Rattle.proto_schema.specs.Words.{members, chosen_after, chosen_at}
+use Rattle.proto_schema.specs.FieldValues.{members, oneof_after, oneof_at}
 use Rattle.gribi_messages.specs.declared.asks.InstanceAsk.{InstanceAsk}
 use Rattle.gribi_messages.specs.declared.asks.InstanceAsk.TheVariants as ask
 use Rattle.gribi_messages.specs.declared.asks.FlushAsk.{FlushAsk}
 use Rattle.gribi_messages.specs.declared.asks.FlushAsk.TheVariants as election
 use Rattle.gribi_messages.specs.declared.asks.FlushRequest.{FlushRequest}
 use Rattle.gribi_messages.specs.Response.{uint128_bytes}
-use Rattle.gribi_messages.specs.Asks.{last_member_at, flush_election_members, flush_ask, flush_ask_field, flush_request, flush_bytes}
-use Rattle.gribi_messages.specs.Fitting.{IsElection, IsFlush}
+use Rattle.gribi_messages.specs.GetAndFlush.{last_member_at, flush_election_members, flush_ask, flush_ask_field, flush_request, flush_bytes}
+use Rattle.gribi_messages.specs.EncodableMessages.{IsEncodableElection, IsEncodableFlush}
 use Rattle.gribi_messages.proofs.Schemas.{listed_at, distinct_at}
-use Rattle.gribi_messages.proofs.ReadAgain.{one_spelled, spelled-append, part_members, members-spots, cut_of, no_fault, IsGood, in_range, turned}
+use Rattle.gribi_messages.proofs.ReadAgain.{one_spelled, encoded_fields-append, part_members, members-field_spans, cut_of, no_fault, IsGood, in_range, turned}
 use Rattle.gribi_messages.proofs.Embedded.{apart, id_read, id_sound, message_good}
 use Rattle.gribi_messages.proofs.Asked.{IsKnown, asked, asked_spelled, asked_again, asked_known, empty_known, members-append}
 
@@ -42,12 +42,12 @@ abbrev all_number : Numbers → ℕ
 all_number n = field_of n field.FlushRequestAll
 
 -- the member of the oneof of the election
-elected : Numbers → Option FlushAsk → List Part
+elected : Numbers → Option FlushAsk → List WrittenField
 elected n None = []
 elected n (Some (election.Id id)) = Text (id_number n) (uint128_bytes n id) ∷ []
 elected n (Some election.Override) = Text (override_number n) [] ∷ []
 
-elected_spelled : (n : Numbers) (o : Option FlushAsk) → option_map_or (flush_ask_field n) o [] ≡ spelled (elected n o)
+elected_spelled : (n : Numbers) (o : Option FlushAsk) → option_map_or (flush_ask_field n) o [] ≡ encoded_fields (elected n o)
 unfolding elected
 elected_spelled n None = refl
 elected_spelled n (Some (election.Id id)) = one_spelled (Text (id_number n) (uint128_bytes n id))
@@ -70,13 +70,13 @@ asked_not_among x y name all None a b c d = refl
 asked_not_among x y name all (Some ask.All) a b c d = not_among x y all [] c d
 asked_not_among x y name all (Some (ask.Named text)) a b c d = not_among x y name text a b
 
-elected_again : (n : Numbers) (o : Option FlushAsk) → IsValid n → IfSome o IsElection → eqb (override_number n) (id_number n) ≡ false → option_map (flush_ask n) (chosen_after None (part_members (flush_election_members n) (elected n o))) ≡ o
+elected_again : (n : Numbers) (o : Option FlushAsk) → IsValid n → IfSome o IsEncodableElection → eqb (override_number n) (id_number n) ≡ false → option_map (flush_ask n) (oneof_after None (part_members (flush_election_members n) (elected n o))) ≡ o
 unfolding part_members elected
 elected_again n None valid h other = refl
 elected_again n (Some (election.Id id)) valid h other = rw (eq-eqb (id_number n) (id_number n) refl) (rw (eq-eqb (id_number n) (id_number n) refl, id_read n id valid h) refl)
 elected_again n (Some election.Override) valid h other = rw (eq-eqb (override_number n) (override_number n) refl) (by (eqb (id_number n) (override_number n)))
   where
-    by : (b : Bool) → option_map (flush_ask n) (chosen_after None (cons_option (cond (b || (true || false)) (Some (override_number n, [])) None) [])) ≡ Some election.Override
+    by : (b : Bool) → option_map (flush_ask n) (oneof_after None (cons_option (cond (b || (true || false)) (Some (override_number n, [])) None) [])) ≡ Some election.Override
     by true = rw other refl
     by false = rw other refl
 
@@ -90,20 +90,20 @@ id_known n id valid lt =
     let sound = id_sound n id valid lt in
     ((r.0, r.1, sound.0), message_good n message.FlushRequest message.Uint128 (id_number n) (uint128_bytes n id) (kind_at n valid 0 (omega arith)) sound)
 
-elected_known : (n : Numbers) (o : Option FlushAsk) → IsValid n → IfSome o IsElection → All (IsKnown n message.FlushRequest) (elected n o)
+elected_known : (n : Numbers) (o : Option FlushAsk) → IsValid n → IfSome o IsEncodableElection → All (IsKnown n message.FlushRequest) (elected n o)
 unfolding elected
 elected_known n None valid h = All-nil (IsKnown n message.FlushRequest)
 elected_known n (Some (election.Id id)) valid h = All-cons (IsKnown n message.FlushRequest) (Text (id_number n) (uint128_bytes n id)) [] (id_known n id valid h) (All-nil (IsKnown n message.FlushRequest))
 elected_known n (Some election.Override) valid h =
     All-cons (IsKnown n message.FlushRequest) (Text (override_number n) []) [] (empty_known n message.FlushRequest field.FlushRequestOverride valid (kind_at n valid 1 (omega arith))) (All-nil (IsKnown n message.FlushRequest))
 
-flush_spelled : (n : Numbers) (r : FlushRequest) → flush_bytes n r ≡ spelled (elected n r.election ++ asked (name_number n) (all_number n) r.instance)
+flush_spelled : (n : Numbers) (r : FlushRequest) → flush_bytes n r ≡ encoded_fields (elected n r.election ++ asked (name_number n) (all_number n) r.instance)
 unfolding flush_bytes
 flush_spelled n r =
-    rw (elected_spelled n r.election, asked_spelled (name_number n) (all_number n) r.instance) (sym (spelled-append (elected n r.election) (asked (name_number n) (all_number n) r.instance)))
+    rw (elected_spelled n r.election, asked_spelled (name_number n) (all_number n) r.instance) (sym (encoded_fields-append (elected n r.election) (asked (name_number n) (all_number n) r.instance)))
 
-pub flush_again : (n : Numbers) (r : FlushRequest) → IsValid n → IsFlush r → (first_fault n message.FlushRequest (flush_bytes n r) ≡ None) × (flush_request n (flush_bytes n r) ≡ r)
-unfolding first_fault flush_request last_member_at chosen_at
+pub flush_again : (n : Numbers) (r : FlushRequest) → IsValid n → IsEncodableFlush r → (first_fault n message.FlushRequest (flush_bytes n r) ≡ None) × (flush_request n (flush_bytes n r) ≡ r)
+unfolding first_fault flush_request last_member_at oneof_at
 flush_again n r valid h =
     let i = id_number n in
     let o = override_number n in
@@ -128,10 +128,10 @@ flush_again n r valid h =
     let bo : eqb b o ≡ false = apart (i ∷ o ∷ a ∷ b ∷ []) 1 3 0 distinct (omega arith) (omega arith) in
     let ba : eqb b a ≡ false = apart (i ∷ o ∷ a ∷ b ∷ []) 2 3 0 distinct (omega arith) (omega arith) in
     let one : members (i ∷ o ∷ []) (fields (flush_bytes n r)).fields ≡ part_members (i ∷ o ∷ []) first =
-    ap (λ (x : Cut). members (i ∷ o ∷ []) x.fields) cut ∙ members-spots (i ∷ o ∷ []) 0 parts ∙ members-append (i ∷ o ∷ []) first second
+    ap (λ (x : ParsedFields). members (i ∷ o ∷ []) x.fields) cut ∙ members-field_spans (i ∷ o ∷ []) 0 parts ∙ members-append (i ∷ o ∷ []) first second
     ∙ rw (asked_not_among i o a b r.instance (turned a i ai) (turned a o ao) (turned b i bi) (turned b o bo)) (append-nil (part_members (i ∷ o ∷ []) first)) in
     let two : members (a ∷ b ∷ []) (fields (flush_bytes n r)).fields ≡ part_members (a ∷ b ∷ []) second =
-    ap (λ (x : Cut). members (a ∷ b ∷ []) x.fields) cut ∙ members-spots (a ∷ b ∷ []) 0 parts ∙ members-append (a ∷ b ∷ []) first second
+    ap (λ (x : ParsedFields). members (a ∷ b ∷ []) x.fields) cut ∙ members-field_spans (a ∷ b ∷ []) 0 parts ∙ members-append (a ∷ b ∷ []) first second
     ∙ rw (elected_not_among n a b r.election ai bi ao bo) refl in (
       no_fault 6 n message.FlushRequest 0 parts (flush_bytes n r) is legal good,
       rw (one, two, elected_again n r.election valid h.election oi, asked_again a b r.instance ba) refl,

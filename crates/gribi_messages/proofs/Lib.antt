@@ -1,14 +1,14 @@
 pub mod Texts
 pub mod Schemas
 pub mod NamesAsked
-pub mod Hearing
+pub mod Scanning
 pub mod TwoNumbers
 pub mod ReadAgain
 pub mod Answered
 pub mod Embedded
 pub mod Asked
 pub mod Flushed
-pub mod Quiet
-pub mod Bunched
+pub mod NoFault
+pub mod SeveralFields
 pub mod RequestAgain
 pub mod RowsAgain

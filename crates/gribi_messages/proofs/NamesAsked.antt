@@ -9,7 +9,7 @@ use Rattle.proto_schema.specs.declared.schema.MessageKind.TheVariants as message
 use Rattle.proto_schema.specs.declared.schema.FieldKind.TheVariants.{Unknown, Text}
 use Rattle.proto_schema.specs.Schema.{fields_of, kind_of}
 use Rattle.proto_schema.specs.Legal.{first_fault, fault_within, wire_fault}
-use Rattle.gribi_messages.specs.Asks.{last_member_at, get_members, flush_instance_members}
+use Rattle.gribi_messages.specs.GetAndFlush.{last_member_at, get_members, flush_instance_members}
 use Rattle.gribi_messages.proofs.Texts.{IsText, last_member_good}
 use Rattle.gribi_messages.proofs.Schemas.{listed_at, distinct_at}
 

@@ -8,9 +8,9 @@ use Rattle.std.proofs.lemmas.List.{append-nil}
 use Rattle.std.proofs.lemmas.List.Concat.{flat_map-cons}
 use Rattle.std.proofs.lemmas.List.Elements.{All-nil, All-cons, All-head, All-tail, All-append, filter_map-append}
 use Rattle.proto_wire.specs.Wire.{Value, Varint, Bytes}
-use Rattle.proto_wire.specs.Fields.{Cut, fields, fields_from}
-use Rattle.proto_wire.specs.Written.{uint_field, bytes_field, Part, Uint, Text, spelling, spelled, IsLegal, spots}
-use Rattle.proto_wire.proofs.Again.{fields_from-spelled}
+use Rattle.proto_wire.specs.Fields.{ParsedFields, fields, fields_from}
+use Rattle.proto_wire.specs.Written.{uint_field, bytes_field, WrittenField, Uint, Text, field_encoding, encoded_fields, IsLegal, field_spans}
+use Rattle.proto_wire.proofs.Again.{fields_from-encoded_fields}
 use Rattle.schema_numbers.specs.Numbers.{Numbers, field_of}
 use Rattle.schema_numbers.specs.declared.names.FieldName.{FieldName}
 use Rattle.schema_numbers.specs.declared.names.FieldName.TheVariants as field
@@ -20,70 +20,70 @@ use Rattle.schema_numbers.proofs.Ranges.{passes, field_number}
 use Rattle.proto_schema.specs.declared.schema.MessageKind.{MessageKind}
 use Rattle.proto_schema.specs.declared.schema.FieldKind.{FieldKind}
 use Rattle.proto_schema.specs.Schema.{kind_of}
-use Rattle.proto_schema.specs.Legal.{Deeper, fault_of_value, fault_of_fields, fault_of_cut, fault_within, deeper_than}
+use Rattle.proto_schema.specs.Legal.{NestedCheck, fault_of_value, fault_of_fields, fault_of_parsed, fault_within, deeper_than}
 use Rattle.proto_schema.proofs.Faults.{fault_within-is}
-use Rattle.proto_schema.specs.Words.{number_in, numbers, piece_in, pieces, member_in, members, last_number_at, number_at}
-use Rattle.aft_messages.specs.Writing.{number_field}
+use Rattle.proto_schema.specs.FieldValues.{number_in, numbers, piece_in, pieces, member_in, members, last_number_at, number_at}
+use Rattle.aft_messages.specs.Writing.{nonzero_uint_field}
 use Rattle.gribi_messages.proofs.Schemas.{not_true, or_no}
 
 -- the number and the value that a part is written with
-abbrev pub number_of : Part → ℕ
+abbrev pub number_of : WrittenField → ℕ
 number_of (Uint number value) = number
 number_of (Text number bytes) = number
 
-abbrev pub value_in : Part → Value
+abbrev pub value_in : WrittenField → Value
 value_in (Uint number value) = Varint value
 value_in (Text number bytes) = Bytes bytes
 
 -- ---- parts
 
-abbrev pub number_part : ℕ → ℕ → List Part
+abbrev pub number_part : ℕ → ℕ → List WrittenField
 number_part number value = cond (eqb value 0) [] (Uint number value ∷ [])
 
-pub one_spelled : (part : Part) → spelling part ≡ spelled (part ∷ [])
-one_spelled part = sym (flat_map-cons spelling part [] ∙ append-nil (spelling part))
+pub one_spelled : (part : WrittenField) → field_encoding part ≡ encoded_fields (part ∷ [])
+one_spelled part = sym (flat_map-cons field_encoding part [] ∙ append-nil (field_encoding part))
 
-pub number_spelled : (number value : ℕ) → number_field number value ≡ spelled (number_part number value)
-unfolding number_field
+pub number_spelled : (number value : ℕ) → nonzero_uint_field number value ≡ encoded_fields (number_part number value)
+unfolding nonzero_uint_field
 number_spelled number value = by (eqb value 0)
   where
-    by : (b : Bool) → cond b [] (uint_field number value) ≡ spelled (cond b [] (Uint number value ∷ []))
+    by : (b : Bool) → cond b [] (uint_field number value) ≡ encoded_fields (cond b [] (Uint number value ∷ []))
     by true = refl
     by false = one_spelled (Uint number value)
 
-pub spelled-append : (xs ys : List Part) → spelled (xs ++ ys) ≡ spelled xs ++ spelled ys
-spelled-append xs ys = flat_map-append spelling xs ys
+pub encoded_fields-append : (xs ys : List WrittenField) → encoded_fields (xs ++ ys) ≡ encoded_fields xs ++ encoded_fields ys
+encoded_fields-append xs ys = flat_map-append field_encoding xs ys
 
 -- ---- what is heard of parts
 
-unfoldable pub part_numbers : ℕ → List Part → List ℕ
+unfoldable pub part_numbers : ℕ → List WrittenField → List ℕ
 part_numbers wanted parts = filter_map (λ p. number_in wanted (number_of p) (value_in p)) parts
 
-unfoldable pub part_pieces : ℕ → List Part → List (List ℕ)
+unfoldable pub part_pieces : ℕ → List WrittenField → List (List ℕ)
 part_pieces wanted parts = filter_map (λ p. piece_in wanted (number_of p) (value_in p)) parts
 
-unfoldable pub part_members : List ℕ → List Part → List (ℕ × List ℕ)
+unfoldable pub part_members : List ℕ → List WrittenField → List (ℕ × List ℕ)
 part_members among parts = filter_map (λ p. member_in among (number_of p) (value_in p)) parts
 
-pub numbers-spots : (wanted place : ℕ) (parts : List Part) → numbers wanted (spots place parts) ≡ part_numbers wanted parts
+pub numbers-field_spans : (wanted place : ℕ) (parts : List WrittenField) → numbers wanted (field_spans place parts) ≡ part_numbers wanted parts
 unfolding part_numbers
-numbers-spots wanted place [] = refl
-numbers-spots wanted place (Uint number value ∷ parts) = ap (cons_option (number_in wanted number (Varint value))) (numbers-spots wanted (place + length (uint_field number value)) parts)
-numbers-spots wanted place (Text number bytes ∷ parts) = ap (cons_option (number_in wanted number (Bytes bytes))) (numbers-spots wanted (place + length (bytes_field number bytes)) parts)
+numbers-field_spans wanted place [] = refl
+numbers-field_spans wanted place (Uint number value ∷ parts) = ap (cons_option (number_in wanted number (Varint value))) (numbers-field_spans wanted (place + length (uint_field number value)) parts)
+numbers-field_spans wanted place (Text number bytes ∷ parts) = ap (cons_option (number_in wanted number (Bytes bytes))) (numbers-field_spans wanted (place + length (bytes_field number bytes)) parts)
 
-pub pieces-spots : (wanted place : ℕ) (parts : List Part) → pieces wanted (spots place parts) ≡ part_pieces wanted parts
+pub pieces-field_spans : (wanted place : ℕ) (parts : List WrittenField) → pieces wanted (field_spans place parts) ≡ part_pieces wanted parts
 unfolding part_pieces
-pieces-spots wanted place [] = refl
-pieces-spots wanted place (Uint number value ∷ parts) = ap (cons_option (piece_in wanted number (Varint value))) (pieces-spots wanted (place + length (uint_field number value)) parts)
-pieces-spots wanted place (Text number bytes ∷ parts) = ap (cons_option (piece_in wanted number (Bytes bytes))) (pieces-spots wanted (place + length (bytes_field number bytes)) parts)
+pieces-field_spans wanted place [] = refl
+pieces-field_spans wanted place (Uint number value ∷ parts) = ap (cons_option (piece_in wanted number (Varint value))) (pieces-field_spans wanted (place + length (uint_field number value)) parts)
+pieces-field_spans wanted place (Text number bytes ∷ parts) = ap (cons_option (piece_in wanted number (Bytes bytes))) (pieces-field_spans wanted (place + length (bytes_field number bytes)) parts)
 
-pub members-spots : (among : List ℕ) (place : ℕ) (parts : List Part) → members among (spots place parts) ≡ part_members among parts
+pub members-field_spans : (among : List ℕ) (place : ℕ) (parts : List WrittenField) → members among (field_spans place parts) ≡ part_members among parts
 unfolding part_members
-members-spots among place [] = refl
-members-spots among place (Uint number value ∷ parts) = ap (cons_option (member_in among number (Varint value))) (members-spots among (place + length (uint_field number value)) parts)
-members-spots among place (Text number bytes ∷ parts) = ap (cons_option (member_in among number (Bytes bytes))) (members-spots among (place + length (bytes_field number bytes)) parts)
+members-field_spans among place [] = refl
+members-field_spans among place (Uint number value ∷ parts) = ap (cons_option (member_in among number (Varint value))) (members-field_spans among (place + length (uint_field number value)) parts)
+members-field_spans among place (Text number bytes ∷ parts) = ap (cons_option (member_in among number (Bytes bytes))) (members-field_spans among (place + length (bytes_field number bytes)) parts)
 
-pub numbers-append : (wanted : ℕ) (xs ys : List Part) → part_numbers wanted (xs ++ ys) ≡ part_numbers wanted xs ++ part_numbers wanted ys
+pub numbers-append : (wanted : ℕ) (xs ys : List WrittenField) → part_numbers wanted (xs ++ ys) ≡ part_numbers wanted xs ++ part_numbers wanted ys
 unfolding part_numbers
 numbers-append wanted xs ys = filter_map-append (λ p. number_in wanted (number_of p) (value_in p)) xs ys
 
@@ -122,16 +122,16 @@ keys rows = map (λ r. r.0) rows
 
 unfoldable pub rows_bytes : Rows → List ℕ
 rows_bytes [] = []
-rows_bytes (r ∷ rows) = number_field r.0 r.1 ++ rows_bytes rows
+rows_bytes (r ∷ rows) = nonzero_uint_field r.0 r.1 ++ rows_bytes rows
 
-pub rows_parts : Rows → List Part
+pub rows_parts : Rows → List WrittenField
 rows_parts [] = []
 rows_parts (r ∷ rows) = number_part r.0 r.1 ++ rows_parts rows
 
-pub rows_spelled : (rows : Rows) → rows_bytes rows ≡ spelled (rows_parts rows)
+pub rows_spelled : (rows : Rows) → rows_bytes rows ≡ encoded_fields (rows_parts rows)
 unfolding rows_bytes rows_parts
 rows_spelled [] = refl
-rows_spelled (r ∷ rows) = rw (number_spelled r.0 r.1, rows_spelled rows) (sym (spelled-append (number_part r.0 r.1) (rows_parts rows)))
+rows_spelled (r ∷ rows) = rw (number_spelled r.0 r.1, rows_spelled rows) (sym (encoded_fields-append (number_part r.0 r.1) (rows_parts rows)))
 
 -- the field's number is one, and the value has at most 64 bits
 abbrev pub IsFitting : (ℕ × ℕ) → Type 0
@@ -174,24 +174,24 @@ here [] i d wanted h lt = absurd (omega arith)
 here (r ∷ rows) zero d wanted h lt = (or_no (eqb r.0 wanted) (list_any (λ m. eqb m wanted) (keys rows)) h).0
 here (r ∷ rows) (suc i) d wanted h lt = here rows i d wanted (or_no (eqb r.0 wanted) (list_any (λ m. eqb m wanted) (keys rows)) h).1 (omega arith)
 
-heard_of : (rows : Rows) (i : ℕ) (d : ℕ × ℕ) → are_distinct (keys rows) ≡ true → i < length rows
+scanned_of : (rows : Rows) (i : ℕ) (d : ℕ × ℕ) → are_distinct (keys rows) ≡ true → i < length rows
     → part_numbers (get_or rows i d).0 (rows_parts rows) ≡ cond (eqb (get_or rows i d).1 0) [] ((get_or rows i d).1 ∷ [])
 unfolding rows_parts
-heard_of [] i d h lt = absurd (omega arith)
-heard_of (r ∷ rows) zero d h lt =
+scanned_of [] i d h lt = absurd (omega arith)
+scanned_of (r ∷ rows) zero d h lt =
     let parts = and_parts (not (list_any (λ m. eqb m r.0) (keys rows))) (are_distinct (keys rows)) h in
     numbers-append r.0 (number_part r.0 r.1) (rows_parts rows)
     ∙ rw (one_number r.0 r.1, absent r.0 rows (not_true (list_any (λ m. eqb m r.0) (keys rows)) parts.0)) (append-nil (cond (eqb r.1 0) [] (r.1 ∷ [])))
-heard_of (r ∷ rows) (suc i) d h lt =
+scanned_of (r ∷ rows) (suc i) d h lt =
     let parts = and_parts (not (list_any (λ m. eqb m r.0) (keys rows))) (are_distinct (keys rows)) h in
     let low : i < length rows = omega arith in
     let apart : eqb (get_or rows i d).0 r.0 ≡ false = here rows i d r.0 (not_true (list_any (λ m. eqb m r.0) (keys rows)) parts.0) low in
     numbers-append (get_or rows i d).0 (number_part r.0 r.1) (rows_parts rows)
-    ∙ rw (other_number (get_or rows i d).0 r.0 r.1 (turned (get_or rows i d).0 r.0 apart)) (heard_of rows i d parts.1 low)
+    ∙ rw (other_number (get_or rows i d).0 r.0 r.1 (turned (get_or rows i d).0 r.0 apart)) (scanned_of rows i d parts.1 low)
 
 -- a message that has one spelling, cut into its fields
-pub cut_of : (place : ℕ) (parts : List Part) (bytes : List ℕ) → bytes ≡ spelled parts → All IsLegal parts → fields_from place bytes ≡ record { fields = spots place parts; fault = None }
-cut_of place parts bytes is legal = ap (fields_from place) is ∙ fields_from-spelled place parts legal
+pub cut_of : (place : ℕ) (parts : List WrittenField) (bytes : List ℕ) → bytes ≡ encoded_fields parts → All IsLegal parts → fields_from place bytes ≡ record { fields = field_spans place parts; fault = None }
+cut_of place parts bytes is legal = ap (fields_from place) is ∙ fields_from-encoded_fields place parts legal
 
 -- the numbers of a message are read again
 pub row_read : (rows : Rows) (i : ℕ) (d : ℕ × ℕ) → are_distinct (keys rows) ≡ true → All IsFitting rows → i < length rows → number_at (get_or rows i d).0 (rows_bytes rows) ≡ (get_or rows i d).1
@@ -199,17 +199,17 @@ unfolding number_at last_number_at
 row_read rows i d distinct fits lt =
     let wanted = (get_or rows i d).0 in
     let cut = cut_of 0 (rows_parts rows) (rows_bytes rows) (rows_spelled rows) (rows_legal rows fits) in
-    let heard : numbers wanted (fields (rows_bytes rows)).fields ≡ cond (eqb (get_or rows i d).1 0) [] ((get_or rows i d).1 ∷ []) =
-    ap (λ (c : Cut). numbers wanted c.fields) cut ∙ numbers-spots wanted 0 (rows_parts rows) ∙ heard_of rows i d distinct lt in
-    ap (λ (xs : List ℕ). unwrap_or (last_or None xs) 0) heard ∙ read_number (get_or rows i d).1
+    let scanned : numbers wanted (fields (rows_bytes rows)).fields ≡ cond (eqb (get_or rows i d).1 0) [] ((get_or rows i d).1 ∷ []) =
+    ap (λ (c : ParsedFields). numbers wanted c.fields) cut ∙ numbers-field_spans wanted 0 (rows_parts rows) ∙ scanned_of rows i d distinct lt in
+    ap (λ (xs : List ℕ). unwrap_or (last_or None xs) 0) scanned ∙ read_number (get_or rows i d).1
 
 -- ---- faults
 
 -- a part in which no fault is found
-abbrev pub IsGood : Deeper → (ℕ → FieldKind) → Part → Type 0
+abbrev pub IsGood : NestedCheck → (ℕ → FieldKind) → WrittenField → Type 0
 IsGood deeper kinds part = (place ending : ℕ) → fault_of_value deeper (kinds (number_of part)) place ending (value_in part) ≡ None
 
-pub good_spots : (deeper : Deeper) (kinds : ℕ → FieldKind) (place : ℕ) (parts : List Part) → All (IsGood deeper kinds) parts → fault_of_fields deeper kinds (spots place parts) None ≡ None
+pub good_spots : (deeper : NestedCheck) (kinds : ℕ → FieldKind) (place : ℕ) (parts : List WrittenField) → All (IsGood deeper kinds) parts → fault_of_fields deeper kinds (field_spans place parts) None ≡ None
 good_spots deeper kinds place [] h = refl
 good_spots deeper kinds place (Uint number value ∷ parts) h =
     good_spots deeper kinds (place + length (uint_field number value)) parts (All-tail (IsGood deeper kinds) (Uint number value) parts h)
@@ -217,23 +217,23 @@ good_spots deeper kinds place (Text number bytes ∷ parts) h =
     rw (All-head (IsGood deeper kinds) (Text number bytes) parts h place (place + length (bytes_field number bytes)))
     (good_spots deeper kinds (place + length (bytes_field number bytes)) parts (All-tail (IsGood deeper kinds) (Text number bytes) parts h))
 
-pub number_good : (deeper : Deeper) (kinds : ℕ → FieldKind) (number value : ℕ) → All (IsGood deeper kinds) (number_part number value)
+pub number_good : (deeper : NestedCheck) (kinds : ℕ → FieldKind) (number value : ℕ) → All (IsGood deeper kinds) (number_part number value)
 number_good deeper kinds number value = by (eqb value 0)
   where
     by : (b : Bool) → All (IsGood deeper kinds) (cond b [] (Uint number value ∷ []))
     by true = All-nil (IsGood deeper kinds)
     by false = All-cons (IsGood deeper kinds) (Uint number value) [] (λ place ending. refl) (All-nil (IsGood deeper kinds))
 
-rows_good : (deeper : Deeper) (kinds : ℕ → FieldKind) (rows : Rows) → All (IsGood deeper kinds) (rows_parts rows)
+rows_good : (deeper : NestedCheck) (kinds : ℕ → FieldKind) (rows : Rows) → All (IsGood deeper kinds) (rows_parts rows)
 unfolding rows_parts
 rows_good deeper kinds [] = All-nil (IsGood deeper kinds)
 rows_good deeper kinds (r ∷ rows) = All-append (IsGood deeper kinds) (number_part r.0 r.1) (rows_parts rows) (number_good deeper kinds r.0 r.1) (rows_good deeper kinds rows)
 
 -- a message of good parts has no fault, wherever it stands
-pub no_fault : (depth : ℕ) (n : Numbers) (m : MessageKind) (base : ℕ) (parts : List Part) (bytes : List ℕ) → bytes ≡ spelled parts → All IsLegal parts
+pub no_fault : (depth : ℕ) (n : Numbers) (m : MessageKind) (base : ℕ) (parts : List WrittenField) (bytes : List ℕ) → bytes ≡ encoded_fields parts → All IsLegal parts
     → All (IsGood (deeper_than depth n) (kind_of n m)) parts → fault_within depth n m base bytes ≡ None
 no_fault depth n m base parts bytes is legal good =
-    fault_within-is depth n m base bytes ∙ ap (fault_of_cut (deeper_than depth n) (kind_of n m)) (cut_of base parts bytes is legal)
+    fault_within-is depth n m base bytes ∙ ap (fault_of_parsed (deeper_than depth n) (kind_of n m)) (cut_of base parts bytes is legal)
     ∙ good_spots (deeper_than depth n) (kind_of n m) base parts good
 
 -- a message of numbers has none

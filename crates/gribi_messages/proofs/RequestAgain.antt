@@ -6,7 +6,7 @@ use Rattle.std.specs.Option.{option_map, option_map_or}
 use Rattle.std.proofs.lemmas.Str.{is_utf8-from_IsUtf8}
 use Rattle.std.proofs.lemmas.Bool.{leb-true}
 use Rattle.std.proofs.lemmas.List.{append-nil}
-use Rattle.proto_wire.specs.Written.{bytes_field, Part, Text, spelled}
+use Rattle.proto_wire.specs.Written.{bytes_field, WrittenField, Text, encoded_fields}
 use Rattle.schema_numbers.specs.Numbers.{Numbers, field_of, value_of}
 use Rattle.schema_numbers.specs.Places.{value_place}
 use Rattle.schema_numbers.specs.Valid.{IsValid, is_enumerator_number, are_distinct, enumerations}
@@ -20,7 +20,7 @@ use Rattle.proto_schema.specs.declared.schema.FieldKind.{FieldKind}
 use Rattle.proto_schema.specs.declared.schema.FieldKind.TheVariants as kind
 use Rattle.proto_schema.specs.Schema.{fields_of, kind_of}
 use Rattle.proto_schema.specs.Legal.{first_fault}
-use Rattle.proto_schema.specs.Words.{number_at, message_at, repeated_at, chosen_after, chosen_at, joined_onto}
+use Rattle.proto_schema.specs.FieldValues.{number_at, message_at, repeated_at, oneof_after, oneof_at, merged_onto}
 use Rattle.proto_schema.proofs.Depth.{deeper_same}
 use Rattle.aft_entries.specs.declared.operation.Op.{Op}
 use Rattle.aft_entries.specs.declared.operation.Op.TheVariants as op
@@ -28,25 +28,25 @@ use Rattle.aft_entries.specs.declared.operation.RawEntry.{RawEntry}
 use Rattle.aft_entries.specs.declared.operation.RawEntry.TheVariants as entry
 use Rattle.aft_entries.specs.declared.operation.RawOperation.{RawOperation}
 use Rattle.aft_messages.specs.Reading.{text_of, name_at}
-use Rattle.aft_messages.specs.Writing.{number_field, filled_field, raw_bytes}
-use Rattle.aft_messages.specs.Sent.{IsSent}
+use Rattle.aft_messages.specs.Writing.{nonzero_uint_field, nonempty_field, raw_bytes}
+use Rattle.aft_messages.specs.Encodable.{IsEncodable}
 use Rattle.aft_messages.proofs.Again.{again}
 use Rattle.aft_messages.proofs.Parts.{Each, bits, Clean, Good, number_said, text_said, message_said, repeated_said}
-use Rattle.aft_messages.proofs.Bunches.{same, differs, InBunch, number_parts, number_spelled, number_own, number_bunch, filled_parts, filled_spelled, filled_text, filled_bunch, option_parts, option_message}
+use Rattle.aft_messages.proofs.FieldGroups.{same, differs, InBunch, number_parts, number_spelled, number_own, number_bunch, filled_parts, filled_spelled, filled_text, filled_bunch, option_parts, option_message}
 use Rattle.aft_messages.proofs.Routes.{inner_fits, front_fits, back_fits, shorter}
-use Rattle.aft_messages.proofs.Many.{each_from, many_parts, many_bytes, many_spelled, many_own, many_bunch, many_said}
+use Rattle.aft_messages.proofs.RepeatedFields.{each_from, many_parts, many_bytes, many_spelled, many_own, many_bunch, many_said}
 use Rattle.gribi_messages.specs.declared.request.RawParams.{RawParams}
 use Rattle.gribi_messages.specs.declared.request.ModifyRequest.{ModifyRequest}
 use Rattle.gribi_messages.specs.Request.{params_of, uint128_of, op_of, entry_members, member_entry, operation_of, modify_request}
 use Rattle.gribi_messages.specs.Response.{uint128_bytes}
-use Rattle.gribi_messages.specs.Spelled.{op_number, member_number, entry_field, id_field, operation_bytes, operation_field, params_bytes, request_params_field, request_bytes}
-use Rattle.gribi_messages.specs.Fitting.{IsOperation, IsParams, IsRequest}
+use Rattle.gribi_messages.specs.RequestEncoding.{op_number, member_number, entry_field, id_field, operation_bytes, operation_field, params_bytes, request_params_field, request_bytes}
+use Rattle.gribi_messages.specs.EncodableMessages.{IsEncodableOperation, IsEncodableParams, IsEncodableRequest}
 use Rattle.gribi_messages.proofs.Schemas.{listed_at, distinct_at, all_at}
 use Rattle.gribi_messages.proofs.Embedded.{apart, id_read, id_sound}
 use Rattle.gribi_messages.proofs.ReadAgain.{Rows, keys, rows_bytes, IsFitting, row_read, no_fault_in_rows, in_range, two_fit}
 use Rattle.std.proofs.lemmas.List.Elements.{All-cons}
-use Rattle.gribi_messages.proofs.Quiet.{clean_from}
-use Rattle.gribi_messages.proofs.Bunched.{Bunch, whole, whole_spelled, IsBunch, whole_legal, whole_clean, numbers_of, nums_at, bits_at, mems, chosen_said, mems_skip, mems_here, is_among, regroup3, regroup5}
+use Rattle.gribi_messages.proofs.NoFault.{clean_from}
+use Rattle.gribi_messages.proofs.SeveralFields.{Bunch, whole, whole_spelled, IsBunch, whole_legal, whole_clean, numbers_of, nums_at, bits_at, mems, chosen_said, mems_skip, mems_here, is_among, regroup3, regroup5}
 
 -- ---- enumerators
 
@@ -142,7 +142,7 @@ record IsHeld (n : Numbers) (e : RawEntry) : Type 0 where
 above : (n : Numbers) → IsValid n → (i j : ℕ) → i < j → j < 11 → eqb (get_or (numbers n) j 0) (get_or (numbers n) i 0) ≡ false
 above n valid i j lt le = apart (numbers n) i j 0 (numbers_distinct n valid) lt le
 
-held : (n : Numbers) (e : RawEntry) → IsValid n → IsSent e → length (raw_bytes n e) < 2 ^ 64 → IsHeld n e
+held : (n : Numbers) (e : RawEntry) → IsValid n → IsEncodable e → length (raw_bytes n e) < 2 ^ 64 → IsHeld n e
 held n (entry.V4 prefix route) valid h fits =
     let r = again n (entry.V4 prefix route) valid h fits in
     record {
@@ -253,10 +253,10 @@ pub id_clean : (n : Numbers) (id : ℕ) → IsValid n → id < 2 ^ 128 → Clean
 id_clean n id valid lt depth base =
     deeper_same depth 5 n message.Uint128 base (uint128_bytes n id) (omega arith) (omega arith) ∙ (id_sound n id valid lt).1 base
 
-abbrev id_parts : Numbers → ℕ → Option ℕ → List Part
+abbrev id_parts : Numbers → ℕ → Option ℕ → List WrittenField
 id_parts n number id = option_parts number (option_map (uint128_bytes n) id)
 
-id_spelled : (n : Numbers) (number : ℕ) (id : Option ℕ) → option_map_or (id_field n number) id [] ≡ spelled (id_parts n number id)
+id_spelled : (n : Numbers) (number : ℕ) (id : Option ℕ) → option_map_or (id_field n number) id [] ≡ encoded_fields (id_parts n number id)
 id_spelled n number None = refl
 id_spelled n number (Some id) = sym (append-nil (bytes_field number (uint128_bytes n id)))
 
@@ -264,7 +264,7 @@ id_bunch : (n : Numbers) (name : FieldName) (id : Option ℕ) → IsValid n → 
 id_bunch n name None valid h = tt
 id_bunch n name (Some id) valid h = let r = in_range n name valid in (((r.0, r.1, (id_sound n id valid h).0), refl, id_clean n id valid h), tt)
 
-id_own : (n : Numbers) (number : ℕ) (id : Option ℕ) → IsValid n → IfSome id (λ i. i < 2 ^ 128) → option_map (uint128_of n) (joined_onto None (bits number (id_parts n number id))) ≡ id
+id_own : (n : Numbers) (number : ℕ) (id : Option ℕ) → IsValid n → IfSome id (λ i. i < 2 ^ 128) → option_map (uint128_of n) (merged_onto None (bits number (id_parts n number id))) ≡ id
 id_own n number id valid h = rw (option_message number (option_map (uint128_bytes n) id)) (by id h)
   where
     by : (id : Option ℕ) → IfSome id (λ i. i < 2 ^ 128) → option_map (uint128_of n) (option_map (uint128_bytes n) id) ≡ id
@@ -278,9 +278,9 @@ params_rows n p = (field_of n field.SessionParametersRedundancy, p.redundancy) �
 
 params_are : (n : Numbers) (p : RawParams) → params_bytes n p ≡ rows_bytes (params_rows n p)
 unfolding params_bytes params_rows rows_bytes
-params_are n p = regroup3 (number_field (field_of n field.SessionParametersRedundancy) p.redundancy) (number_field (field_of n field.SessionParametersPersistence) p.persistence) (number_field (field_of n field.SessionParametersAckType) p.ack)
+params_are n p = regroup3 (nonzero_uint_field (field_of n field.SessionParametersRedundancy) p.redundancy) (nonzero_uint_field (field_of n field.SessionParametersPersistence) p.persistence) (nonzero_uint_field (field_of n field.SessionParametersAckType) p.ack)
 
-params_fit : (n : Numbers) (p : RawParams) → IsValid n → IsParams p → All IsFitting (params_rows n p)
+params_fit : (n : Numbers) (p : RawParams) → IsValid n → IsEncodableParams p → All IsFitting (params_rows n p)
 unfolding params_rows
 params_fit n p valid h =
     let a = in_range n field.SessionParametersRedundancy valid in
@@ -289,7 +289,7 @@ params_fit n p valid h =
     All-cons IsFitting (field_of n field.SessionParametersRedundancy, p.redundancy) ((field_of n field.SessionParametersPersistence, p.persistence) ∷ (field_of n field.SessionParametersAckType, p.ack) ∷ []) (a.0, a.1, h.redundancy)
     (two_fit (field_of n field.SessionParametersPersistence, p.persistence) (field_of n field.SessionParametersAckType, p.ack) (b.0, b.1, h.persistence) (c.0, c.1, h.ack))
 
-params_read : (n : Numbers) (p : RawParams) → IsValid n → IsParams p → params_of n (params_bytes n p) ≡ p
+params_read : (n : Numbers) (p : RawParams) → IsValid n → IsEncodableParams p → params_of n (params_bytes n p) ≡ p
 unfolding params_rows
 params_read n p valid h =
     let rows = params_rows n p in
@@ -297,7 +297,7 @@ params_read n p valid h =
     let distinct : are_distinct (keys rows) ≡ true = distinct_at n valid 2 (omega arith) in
     rw (params_are n p) (rw (row_read rows 0 (0, 0) distinct fit (omega arith), row_read rows 1 (0, 0) distinct fit (omega arith), row_read rows 2 (0, 0) distinct fit (omega arith)) refl)
 
-params_clean : (n : Numbers) (p : RawParams) → IsValid n → IsParams p → Clean n message.SessionParameters (params_bytes n p)
+params_clean : (n : Numbers) (p : RawParams) → IsValid n → IsEncodableParams p → Clean n message.SessionParameters (params_bytes n p)
 params_clean n p valid h depth base = rw (params_are n p) (no_fault_in_rows depth n message.SessionParameters base (params_rows n p) (params_fit n p valid h))
 
 -- ---- an operation
@@ -310,10 +310,10 @@ abbrev entry_kind : Option RawEntry → FieldKind
 entry_kind None = kind.Message message.Ipv4EntryKey
 entry_kind (Some e) = kind_in e
 
-abbrev entry_parts : Numbers → Option RawEntry → List Part
+abbrev entry_parts : Numbers → Option RawEntry → List WrittenField
 entry_parts n e = option_parts (entry_number n e) (option_map (raw_bytes n) e)
 
-entry_spelled : (n : Numbers) (e : Option RawEntry) → option_map_or (entry_field n) e [] ≡ spelled (entry_parts n e)
+entry_spelled : (n : Numbers) (e : Option RawEntry) → option_map_or (entry_field n) e [] ≡ encoded_fields (entry_parts n e)
 unfolding entry_field
 entry_spelled n None = refl
 entry_spelled n (Some e) = sym (append-nil (bytes_field (member_number n e) (raw_bytes n e)))
@@ -325,9 +325,9 @@ record HasEntry (n : Numbers) (e : Option RawEntry) : Type 0 where
   pub high : place < 10
   pub number : entry_number n e ≡ get_or (numbers n) place 0
   pub bunch : IsBunch n message.AftOperation (record { number = entry_number n e; kind = entry_kind e; parts = entry_parts n e })
-  pub read : option_map (member_entry n) (chosen_after None (mems (entry_members n) (entry_parts n e))) ≡ e
+  pub read : option_map (member_entry n) (oneof_after None (mems (entry_members n) (entry_parts n e))) ≡ e
 
-has_entry : (n : Numbers) (e : Option RawEntry) → IsValid n → IfSome e IsSent → length (option_map_or (entry_field n) e []) < 2 ^ 64 → HasEntry n e
+has_entry : (n : Numbers) (e : Option RawEntry) → IsValid n → IfSome e IsEncodable → length (option_map_or (entry_field n) e []) < 2 ^ 64 → HasEntry n e
 unfolding entry_field
 has_entry n None valid h fits = record { place = 3; low = omega arith; high = omega arith; number = refl; bunch = (operation_kind n valid 3 (omega arith), tt); read = refl }
 has_entry n (Some e) valid h fits =
@@ -351,12 +351,12 @@ bunches n o =
     record { number = field_of n field.AftOperationElectionId; kind = kind.Message message.Uint128; parts = id_parts n (field_of n field.AftOperationElectionId) o.election } ∷
     []
 
-operation_spelled : (n : Numbers) (o : RawOperation) → operation_bytes n o ≡ spelled (whole (bunches n o))
+operation_spelled : (n : Numbers) (o : RawOperation) → operation_bytes n o ≡ encoded_fields (whole (bunches n o))
 unfolding operation_bytes bunches
 operation_spelled n o =
-    let a = number_field (field_of n field.AftOperationId) o.id in
-    let b = filled_field (field_of n field.AftOperationNetworkInstance) o.instance in
-    let c = number_field (field_of n field.AftOperationOp) (op_number n o.op) in
+    let a = nonzero_uint_field (field_of n field.AftOperationId) o.id in
+    let b = nonempty_field (field_of n field.AftOperationNetworkInstance) o.instance in
+    let c = nonzero_uint_field (field_of n field.AftOperationOp) (op_number n o.op) in
     let d = option_map_or (entry_field n) o.entry [] in
     let e = option_map_or (id_field n (field_of n field.AftOperationElectionId)) o.election [] in
     regroup5 a b c d e
@@ -370,9 +370,9 @@ record OperationFits (n : Numbers) (o : RawOperation) : Type 0 where
 operation_fits : (n : Numbers) (o : RawOperation) → length (operation_bytes n o) < 2 ^ 64 → OperationFits n o
 unfolding operation_bytes
 operation_fits n o fits =
-    let a = number_field (field_of n field.AftOperationId) o.id in
-    let b = filled_field (field_of n field.AftOperationNetworkInstance) o.instance in
-    let c = number_field (field_of n field.AftOperationOp) (op_number n o.op) in
+    let a = nonzero_uint_field (field_of n field.AftOperationId) o.id in
+    let b = nonempty_field (field_of n field.AftOperationNetworkInstance) o.instance in
+    let c = nonzero_uint_field (field_of n field.AftOperationOp) (op_number n o.op) in
     let d = option_map_or (entry_field n) o.entry [] in
     let e = option_map_or (id_field n (field_of n field.AftOperationElectionId)) o.election [] in
     let abcd : length (((a ++ b) ++ c) ++ d) < 2 ^ 64 = front_fits (((a ++ b) ++ c) ++ d) e fits in
@@ -383,7 +383,7 @@ operation_fits n o fits =
       entry = back_fits ((a ++ b) ++ c) d abcd;
     }
 
-bunches_hold : (n : Numbers) (o : RawOperation) → IsValid n → IsOperation o → OperationFits n o → Each (IsBunch n message.AftOperation) (bunches n o)
+bunches_hold : (n : Numbers) (o : RawOperation) → IsValid n → IsEncodableOperation o → OperationFits n o → Each (IsBunch n message.AftOperation) (bunches n o)
 unfolding bunches
 bunches_hold n o valid h fits =
     let id = number_bunch n kind.Number (field_of n field.AftOperationId) o.id (in_range n field.AftOperationId valid) h.id in
@@ -445,9 +445,9 @@ none : Bunch
 none = record { number = 0; kind = kind.Unknown; parts = [] }
 
 -- what is heard of the oneof is in the entry's own field
-entry_heard : (n : Numbers) (o : RawOperation) → IsValid n → Each (IsBunch n message.AftOperation) (bunches n o) → mems (entry_members n) (whole (bunches n o)) ≡ mems (entry_members n) (entry_parts n o.entry)
+entry_scanned : (n : Numbers) (o : RawOperation) → IsValid n → Each (IsBunch n message.AftOperation) (bunches n o) → mems (entry_members n) (whole (bunches n o)) ≡ mems (entry_members n) (entry_parts n o.entry)
 unfolding bunches
-entry_heard n o valid each =
+entry_scanned n o valid each =
     let m = message.AftOperation in
     let among = entry_members n in
     let a : Bunch = record { number = field_of n field.AftOperationId; kind = kind.Number; parts = number_parts (field_of n field.AftOperationId) o.id } in
@@ -465,10 +465,10 @@ record OperationAgain (n : Numbers) (o : RawOperation) (bytes : List ℕ) : Type
   pub id : number_at (field_of n field.AftOperationId) bytes ≡ o.id
   pub instance : name_at (field_of n field.AftOperationNetworkInstance) bytes ≡ o.instance
   pub op : op_of n (number_at (field_of n field.AftOperationOp) bytes) ≡ o.op
-  pub entry : option_map (member_entry n) (chosen_at (entry_members n) bytes) ≡ o.entry
+  pub entry : option_map (member_entry n) (oneof_at (entry_members n) bytes) ≡ o.entry
   pub election : option_map (uint128_of n) (message_at (field_of n field.AftOperationElectionId) bytes) ≡ o.election
 
-operation_parts_again : (n : Numbers) (o : RawOperation) → IsValid n → IsOperation o → OperationFits n o → OperationAgain n o (spelled (whole (bunches n o)))
+operation_parts_again : (n : Numbers) (o : RawOperation) → IsValid n → IsEncodableOperation o → OperationFits n o → OperationAgain n o (encoded_fields (whole (bunches n o)))
 unfolding bunches text_of
 operation_parts_again n o valid h fits =
     let m = message.AftOperation in
@@ -486,17 +486,17 @@ operation_parts_again n o valid h fits =
       id = number_said a (whole bs) legal ∙ ap (λ (x : List ℕ). unwrap_or (last_or None x) 0) (nums_at n m bs 0 none apart_ each (omega arith)) ∙ number_own a o.id;
       instance = ap text_of (text_said b (whole bs) legal ∙ ap (λ (x : List (List ℕ)). unwrap_or (last_or None x) []) (bits_at n m bs 1 none apart_ each (omega arith)) ∙ filled_text b o.instance) ∙ rw (is_utf8-from_IsUtf8 o.instance h.instance) refl;
       op = ap (op_of n) (number_said c (whole bs) legal ∙ ap (λ (x : List ℕ). unwrap_or (last_or None x) 0) (nums_at n m bs 2 none apart_ each (omega arith)) ∙ number_own c (op_number n o.op)) ∙ op_again n o.op valid h.op;
-      entry = ap (option_map (member_entry n)) (chosen_said (entry_members n) (whole bs) legal ∙ ap (chosen_after None) (entry_heard n o valid each)) ∙ e.read;
-      election = ap (option_map (uint128_of n)) (message_said f (whole bs) legal ∙ ap (joined_onto None) (bits_at n m bs 4 none apart_ each (omega arith))) ∙ id_own n f o.election valid h.election;
+      entry = ap (option_map (member_entry n)) (chosen_said (entry_members n) (whole bs) legal ∙ ap (oneof_after None) (entry_scanned n o valid each)) ∙ e.read;
+      election = ap (option_map (uint128_of n)) (message_said f (whole bs) legal ∙ ap (merged_onto None) (bits_at n m bs 4 none apart_ each (omega arith))) ∙ id_own n f o.election valid h.election;
     }
 
-operation_again : (n : Numbers) (o : RawOperation) → IsValid n → IsOperation o → length (operation_bytes n o) < 2 ^ 64 → OperationAgain n o (operation_bytes n o)
+operation_again : (n : Numbers) (o : RawOperation) → IsValid n → IsEncodableOperation o → length (operation_bytes n o) < 2 ^ 64 → OperationAgain n o (operation_bytes n o)
 operation_again n o valid h fits = rw (operation_spelled n o) (operation_parts_again n o valid h (operation_fits n o fits))
 
-operation_clean : (n : Numbers) → IsValid n → (o : RawOperation) → IsOperation o → length (operation_bytes n o) < 2 ^ 64 → Clean n message.AftOperation (operation_bytes n o)
+operation_clean : (n : Numbers) → IsValid n → (o : RawOperation) → IsEncodableOperation o → length (operation_bytes n o) < 2 ^ 64 → Clean n message.AftOperation (operation_bytes n o)
 operation_clean n valid o h fits = (operation_again n o valid h fits).clean
 
-operation_read : (n : Numbers) → IsValid n → (o : RawOperation) → IsOperation o → length (operation_bytes n o) < 2 ^ 64 → operation_of n (operation_bytes n o) ≡ o
+operation_read : (n : Numbers) → IsValid n → (o : RawOperation) → IsEncodableOperation o → length (operation_bytes n o) < 2 ^ 64 → operation_of n (operation_bytes n o) ≡ o
 unfolding operation_of
 operation_read n valid o h fits =
     let r = operation_again n o valid h fits in
@@ -513,10 +513,10 @@ params_number n = field_of n field.ModifyRequestParams
 abbrev election_number : Numbers → ℕ
 election_number n = field_of n field.ModifyRequestElectionId
 
-abbrev params_parts : Numbers → Option RawParams → List Part
+abbrev params_parts : Numbers → Option RawParams → List WrittenField
 params_parts n p = option_parts (params_number n) (option_map (params_bytes n) p)
 
-params_spelled : (n : Numbers) (p : Option RawParams) → option_map_or (request_params_field n) p [] ≡ spelled (params_parts n p)
+params_spelled : (n : Numbers) (p : Option RawParams) → option_map_or (request_params_field n) p [] ≡ encoded_fields (params_parts n p)
 unfolding request_params_field
 params_spelled n None = refl
 params_spelled n (Some p) = sym (append-nil (bytes_field (params_number n) (params_bytes n p)))
@@ -525,7 +525,7 @@ request_kind : (n : Numbers) → IsValid n → (i : ℕ) → i < 3 → kind_of n
 unfolding kind_of
 request_kind n valid i lt = listed_at (fields_of n message.ModifyRequest) i (0, kind.Unknown) (distinct_at n valid 0 (omega arith)) lt
 
-params_bunch : (n : Numbers) (p : Option RawParams) → IsValid n → IfSome p IsParams → length (option_map_or (request_params_field n) p []) < 2 ^ 64
+params_bunch : (n : Numbers) (p : Option RawParams) → IsValid n → IfSome p IsEncodableParams → length (option_map_or (request_params_field n) p []) < 2 ^ 64
     → Each (InBunch n (kind.Message message.SessionParameters) (params_number n)) (params_parts n p)
 unfolding request_params_field
 params_bunch n None valid h fits = tt
@@ -533,10 +533,10 @@ params_bunch n (Some p) valid h fits =
     let r = in_range n field.ModifyRequestParams valid in
     (((r.0, r.1, inner_fits (params_number n) (params_bytes n p) fits), refl, params_clean n p valid h), tt)
 
-params_own : (n : Numbers) (p : Option RawParams) → IsValid n → IfSome p IsParams → option_map (params_of n) (joined_onto None (bits (params_number n) (params_parts n p))) ≡ p
+params_own : (n : Numbers) (p : Option RawParams) → IsValid n → IfSome p IsEncodableParams → option_map (params_of n) (merged_onto None (bits (params_number n) (params_parts n p))) ≡ p
 params_own n p valid h = rw (option_message (params_number n) (option_map (params_bytes n) p)) (by p h)
   where
-    by : (p : Option RawParams) → IfSome p IsParams → option_map (params_of n) (option_map (params_bytes n) p) ≡ p
+    by : (p : Option RawParams) → IfSome p IsEncodableParams → option_map (params_of n) (option_map (params_bytes n) p) ≡ p
     by None h = refl
     by (Some q) h = ap Some (params_read n q valid h)
 
@@ -551,7 +551,7 @@ operations_are : (n : Numbers) (os : List RawOperation) → flat_map (operation_
 unfolding operation_field
 operations_are n os = refl
 
-request_spelled : (n : Numbers) (r : ModifyRequest) → request_bytes n r ≡ spelled (whole (request_bunches n r))
+request_spelled : (n : Numbers) (r : ModifyRequest) → request_bytes n r ≡ encoded_fields (whole (request_bunches n r))
 unfolding request_bytes request_bunches
 request_spelled n r =
     regroup3 (flat_map (operation_field n) r.operations) (option_map_or (request_params_field n) r.params []) (option_map_or (id_field n (election_number n)) r.election [])
@@ -571,10 +571,10 @@ request_fits n r fits =
     let ab : length (a ++ b) < 2 ^ 64 = front_fits (a ++ b) c fits in
     record { operations = rw (← operations_are n r.operations) (front_fits a b ab); params = back_fits a b ab }
 
-request_hold : (n : Numbers) (r : ModifyRequest) → IsValid n → IsRequest r → RequestFits n r → Each (IsBunch n message.ModifyRequest) (request_bunches n r)
+request_hold : (n : Numbers) (r : ModifyRequest) → IsValid n → IsEncodableRequest r → RequestFits n r → Each (IsBunch n message.ModifyRequest) (request_bunches n r)
 unfolding request_bunches
 request_hold n r valid h fits =
-    let operations = many_bunch n message.AftOperation (operation_number n) (operation_bytes n) IsOperation (operation_clean n valid) (in_range n field.ModifyRequestOperation valid) r.operations (each_from IsOperation r.operations h.operations) fits.operations in
+    let operations = many_bunch n message.AftOperation (operation_number n) (operation_bytes n) IsEncodableOperation (operation_clean n valid) (in_range n field.ModifyRequestOperation valid) r.operations (each_from IsEncodableOperation r.operations h.operations) fits.operations in
     let params = params_bunch n r.params valid h.params fits.params in
     let election = id_bunch n field.ModifyRequestElectionId r.election valid h.election in
     ((request_kind n valid 0 (omega arith), operations), ((request_kind n valid 1 (omega arith), params), ((request_kind n valid 2 (omega arith), election), tt)))
@@ -585,7 +585,7 @@ record RequestAgain (n : Numbers) (r : ModifyRequest) (bytes : List ℕ) : Type 
   pub params : option_map (params_of n) (message_at (params_number n) bytes) ≡ r.params
   pub election : option_map (uint128_of n) (message_at (election_number n) bytes) ≡ r.election
 
-request_parts_again : (n : Numbers) (r : ModifyRequest) → IsValid n → IsRequest r → RequestFits n r → RequestAgain n r (spelled (whole (request_bunches n r)))
+request_parts_again : (n : Numbers) (r : ModifyRequest) → IsValid n → IsEncodableRequest r → RequestFits n r → RequestAgain n r (encoded_fields (whole (request_bunches n r)))
 unfolding request_bunches
 request_parts_again n r valid h fits =
     let m = message.ModifyRequest in
@@ -599,12 +599,12 @@ request_parts_again n r valid h fits =
     record {
       clean = whole_clean n m bs each;
       operations = ap (map (operation_of n)) (repeated_said a (whole bs) legal ∙ bits_at n m bs 0 none apart_ each (omega arith) ∙ many_own a (operation_bytes n) r.operations)
-          ∙ many_said a (operation_bytes n) (operation_of n) IsOperation (operation_read n valid) r.operations (each_from IsOperation r.operations h.operations) fits.operations;
-      params = ap (option_map (params_of n)) (message_said b (whole bs) legal ∙ ap (joined_onto None) (bits_at n m bs 1 none apart_ each (omega arith))) ∙ params_own n r.params valid h.params;
-      election = ap (option_map (uint128_of n)) (message_said c (whole bs) legal ∙ ap (joined_onto None) (bits_at n m bs 2 none apart_ each (omega arith))) ∙ id_own n c r.election valid h.election;
+          ∙ many_said a (operation_bytes n) (operation_of n) IsEncodableOperation (operation_read n valid) r.operations (each_from IsEncodableOperation r.operations h.operations) fits.operations;
+      params = ap (option_map (params_of n)) (message_said b (whole bs) legal ∙ ap (merged_onto None) (bits_at n m bs 1 none apart_ each (omega arith))) ∙ params_own n r.params valid h.params;
+      election = ap (option_map (uint128_of n)) (message_said c (whole bs) legal ∙ ap (merged_onto None) (bits_at n m bs 2 none apart_ each (omega arith))) ∙ id_own n c r.election valid h.election;
     }
 
-pub modify_request_again : (n : Numbers) (r : ModifyRequest) → IsValid n → IsRequest r → length (request_bytes n r) < 2 ^ 64
+pub modify_request_again : (n : Numbers) (r : ModifyRequest) → IsValid n → IsEncodableRequest r → length (request_bytes n r) < 2 ^ 64
     → (first_fault n message.ModifyRequest (request_bytes n r) ≡ None) × (modify_request n (request_bytes n r) ≡ r)
 unfolding first_fault modify_request
 modify_request_again n r valid h fits =

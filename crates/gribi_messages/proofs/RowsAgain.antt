@@ -7,7 +7,7 @@ use Rattle.std.specs.Str.{IsUtf8}
 use Rattle.std.proofs.lemmas.Str.{is_utf8-from_IsUtf8}
 use Rattle.std.proofs.lemmas.List.{append-nil, take_all}
 use Rattle.std.proofs.lemmas.List.Elements.{All-head, All-tail, All-more}
-use Rattle.proto_wire.specs.Written.{bytes_field, Text, spelled}
+use Rattle.proto_wire.specs.Written.{bytes_field, Text, encoded_fields}
 use Rattle.schema_numbers.specs.Numbers.{Numbers, field_of, value_of}
 use Rattle.schema_numbers.specs.Valid.{IsValid, are_distinct}
 use Rattle.schema_numbers.specs.declared.names.FieldName.TheVariants as field
@@ -17,7 +17,7 @@ use Rattle.proto_schema.specs.declared.schema.FieldKind.{FieldKind}
 use Rattle.proto_schema.specs.declared.schema.FieldKind.TheVariants as kind
 use Rattle.proto_schema.specs.Schema.{fields_of, kind_of}
 use Rattle.proto_schema.specs.Legal.{first_fault}
-use Rattle.proto_schema.specs.Words.{number_at, repeated_at, chosen_after, chosen_at}
+use Rattle.proto_schema.specs.FieldValues.{number_at, repeated_at, oneof_after, oneof_at}
 use Rattle.aft_entries.specs.Shapes.{fits}
 use Rattle.aft_entries.specs.declared.key.KeyName.{KeyName}
 use Rattle.aft_entries.specs.declared.key.KeyName.TheVariants as name
@@ -30,21 +30,21 @@ use Rattle.aft_entries.specs.declared.operation.RawHop.{RawHop}
 use Rattle.aft_entries.specs.declared.operation.RawGroup.{RawGroup}
 use Rattle.aft_entries.specs.declared.operation.RawRoute.{RawRoute}
 use Rattle.aft_messages.specs.Reading.{text_of, name_at}
-use Rattle.aft_messages.specs.Writing.{number_field, filled_field, raw_bytes}
+use Rattle.aft_messages.specs.Writing.{nonzero_uint_field, nonempty_field, raw_bytes}
 use Rattle.aft_messages.specs.Printing.{raw_hop, raw_group, raw_route, raw_from, raw_of}
-use Rattle.aft_messages.specs.Sent.{IsSent}
+use Rattle.aft_messages.specs.Encodable.{IsEncodable}
 use Rattle.aft_messages.proofs.Again.{again}
 use Rattle.aft_messages.proofs.Parts.{Each, Clean, Good, number_said, text_said, repeated_said}
-use Rattle.aft_messages.proofs.Bunches.{same, differs, number_parts, number_spelled, number_own, number_bunch, filled_parts, filled_spelled, filled_text, filled_bunch}
+use Rattle.aft_messages.proofs.FieldGroups.{same, differs, number_parts, number_spelled, number_own, number_bunch, filled_parts, filled_spelled, filled_text, filled_bunch}
 use Rattle.aft_messages.proofs.Routes.{inner_fits, front_fits, back_fits, shorter}
-use Rattle.aft_messages.proofs.Many.{each_from, many_parts, many_bytes, many_spelled, many_own, many_bunch}
-use Rattle.gribi_messages.specs.Rows.{row_members, row_entry, row_of, get_response, row_member, row_entry_field, fib_status_of, row_bytes, row_field, rows_bytes, row_sent}
-use Rattle.gribi_messages.specs.Fitting.{IsRow}
+use Rattle.aft_messages.proofs.RepeatedFields.{each_from, many_parts, many_bytes, many_spelled, many_own, many_bunch}
+use Rattle.gribi_messages.specs.Rows.{row_members, row_entry, row_of, get_response, row_member, row_entry_field, fib_status_of, row_bytes, row_field, rows_bytes, row_as_read}
+use Rattle.gribi_messages.specs.EncodableMessages.{IsEncodableRow}
 use Rattle.gribi_messages.proofs.Schemas.{listed_at, distinct_at}
 use Rattle.gribi_messages.proofs.Embedded.{apart}
 use Rattle.gribi_messages.proofs.ReadAgain.{in_range}
-use Rattle.gribi_messages.proofs.Quiet.{clean_from}
-use Rattle.gribi_messages.proofs.Bunched.{Bunch, whole, whole_spelled, IsBunch, whole_legal, whole_clean, numbers_of, nums_at, bits_at, mems, chosen_said, mems_skip, mems_here, is_among, regroup4}
+use Rattle.gribi_messages.proofs.NoFault.{clean_from}
+use Rattle.gribi_messages.proofs.SeveralFields.{Bunch, whole, whole_spelled, IsBunch, whole_legal, whole_clean, numbers_of, nums_at, bits_at, mems, chosen_said, mems_skip, mems_here, is_among, regroup4}
 use Rattle.gribi_messages.proofs.RequestAgain.{value_fits}
 
 -- ---- the entry of a row
@@ -81,7 +81,7 @@ record IsHeld (n : Numbers) (number : ℕ) (e : RawEntry) : Type 0 where
   pub among : list_any (λ k. eqb k number) (row_members n) ≡ true
   pub read : row_entry n (number, raw_bytes n e) ≡ e
 
-held_v4 : (n : Numbers) (text : List ℕ) (route : RawRoute) → IsValid n → IsSent (entry.V4 text route) → length (raw_bytes n (entry.V4 text route)) < 2 ^ 64 → IsHeld n (field_of n field.AftEntryIpv4) (entry.V4 text route)
+held_v4 : (n : Numbers) (text : List ℕ) (route : RawRoute) → IsValid n → IsEncodable (entry.V4 text route) → length (raw_bytes n (entry.V4 text route)) < 2 ^ 64 → IsHeld n (field_of n field.AftEntryIpv4) (entry.V4 text route)
 held_v4 n text route valid h fit =
     let r = again n (entry.V4 text route) valid h fit in
     record {
@@ -97,7 +97,7 @@ held_v4 n text route valid h fit =
       read = rw (same (field_of n field.AftEntryIpv4)) r.1;
     }
 
-held_v6 : (n : Numbers) (text : List ℕ) (route : RawRoute) → IsValid n → IsSent (entry.V6 text route) → length (raw_bytes n (entry.V6 text route)) < 2 ^ 64 → IsHeld n (field_of n field.AftEntryIpv6) (entry.V6 text route)
+held_v6 : (n : Numbers) (text : List ℕ) (route : RawRoute) → IsValid n → IsEncodable (entry.V6 text route) → length (raw_bytes n (entry.V6 text route)) < 2 ^ 64 → IsHeld n (field_of n field.AftEntryIpv6) (entry.V6 text route)
 held_v6 n text route valid h fit =
     let r = again n (entry.V6 text route) valid h fit in
     let not_0 : eqb (field_of n field.AftEntryIpv6) (field_of n field.AftEntryIpv4) ≡ false = above n valid 1 2 (omega arith) (omega arith) in
@@ -114,7 +114,7 @@ held_v6 n text route valid h fit =
       read = rw (not_0, same (field_of n field.AftEntryIpv6)) r.1;
     }
 
-held_label : (n : Numbers) (label : Option ℕ) (route : RawRoute) → IsValid n → IsSent (entry.Label label route) → length (raw_bytes n (entry.Label label route)) < 2 ^ 64 → IsHeld n (field_of n field.AftEntryMpls) (entry.Label label route)
+held_label : (n : Numbers) (label : Option ℕ) (route : RawRoute) → IsValid n → IsEncodable (entry.Label label route) → length (raw_bytes n (entry.Label label route)) < 2 ^ 64 → IsHeld n (field_of n field.AftEntryMpls) (entry.Label label route)
 held_label n label route valid h fit =
     let r = again n (entry.Label label route) valid h fit in
     let not_0 : eqb (field_of n field.AftEntryMpls) (field_of n field.AftEntryIpv4) ≡ false = above n valid 1 3 (omega arith) (omega arith) in
@@ -132,7 +132,7 @@ held_label n label route valid h fit =
       read = rw (not_0, not_1, same (field_of n field.AftEntryMpls)) r.1;
     }
 
-held_group : (n : Numbers) (id : ℕ) (group : RawGroup) → IsValid n → IsSent (entry.Group id group) → length (raw_bytes n (entry.Group id group)) < 2 ^ 64 → IsHeld n (field_of n field.AftEntryNextHopGroup) (entry.Group id group)
+held_group : (n : Numbers) (id : ℕ) (group : RawGroup) → IsValid n → IsEncodable (entry.Group id group) → length (raw_bytes n (entry.Group id group)) < 2 ^ 64 → IsHeld n (field_of n field.AftEntryNextHopGroup) (entry.Group id group)
 held_group n id group valid h fit =
     let r = again n (entry.Group id group) valid h fit in
     let not_0 : eqb (field_of n field.AftEntryNextHopGroup) (field_of n field.AftEntryIpv4) ≡ false = above n valid 1 4 (omega arith) (omega arith) in
@@ -151,7 +151,7 @@ held_group n id group valid h fit =
       read = rw (not_0, not_1, not_2, same (field_of n field.AftEntryNextHopGroup)) r.1;
     }
 
-held_hop : (n : Numbers) (index : ℕ) (hop : RawHop) → IsValid n → IsSent (entry.Hop index hop) → length (raw_bytes n (entry.Hop index hop)) < 2 ^ 64 → IsHeld n (field_of n field.AftEntryNextHop) (entry.Hop index hop)
+held_hop : (n : Numbers) (index : ℕ) (hop : RawHop) → IsValid n → IsEncodable (entry.Hop index hop) → length (raw_bytes n (entry.Hop index hop)) < 2 ^ 64 → IsHeld n (field_of n field.AftEntryNextHop) (entry.Hop index hop)
 held_hop n index hop valid h fit =
     let r = again n (entry.Hop index hop) valid h fit in
     let not_0 : eqb (field_of n field.AftEntryNextHop) (field_of n field.AftEntryIpv4) ≡ false = above n valid 1 5 (omega arith) (omega arith) in
@@ -171,7 +171,7 @@ held_hop n index hop valid h fit =
       read = rw (not_0, not_1, not_2, not_3) r.1;
     }
 
-held : (n : Numbers) (names : List (List ℕ)) (key : KeyName) (p : Payload) → IsValid n → fits key p ≡ true → IsSent (raw_from names key p) → length (raw_bytes n (raw_from names key p)) < 2 ^ 64
+held : (n : Numbers) (names : List (List ℕ)) (key : KeyName) (p : Payload) → IsValid n → fits key p ≡ true → IsEncodable (raw_from names key p) → length (raw_bytes n (raw_from names key p)) < 2 ^ 64
     → IsHeld n (row_member n key) (raw_from names key p)
 held n names (name.Hop index) (payload.Hop hop) valid is h fit = held_hop n index (raw_hop hop) valid h fit
 held n names (name.Hop index) (payload.Group group) valid is h fit = cc
@@ -211,10 +211,10 @@ record RowFits (n : Numbers) (names : List (List ℕ)) (row : Row) : Type 0 wher
 row_fits : (n : Numbers) (names : List (List ℕ)) (row : Row) → length (row_bytes n names row) < 2 ^ 64 → RowFits n names row
 unfolding row_bytes row_entry_field
 row_fits n names row fit =
-    let a = filled_field (field_of n field.AftEntryNetworkInstance) (instance_in names row) in
+    let a = nonempty_field (field_of n field.AftEntryNetworkInstance) (instance_in names row) in
     let b = bytes_field (member_in_row n row) (raw_bytes n (raw_in names row)) in
-    let c = number_field (field_of n field.AftEntryRibStatus) (value_of n value.EntryStatusProgrammed) in
-    let d = number_field (field_of n field.AftEntryFibStatus) (fib_status_of n row.installed) in
+    let c = nonzero_uint_field (field_of n field.AftEntryRibStatus) (value_of n value.EntryStatusProgrammed) in
+    let d = nonzero_uint_field (field_of n field.AftEntryFibStatus) (fib_status_of n row.installed) in
     let abc : length ((a ++ b) ++ c) < 2 ^ 64 = front_fits ((a ++ b) ++ c) d fit in
     let ab : length (a ++ b) < 2 ^ 64 = front_fits (a ++ b) c abc in
     record {
@@ -230,13 +230,13 @@ bunches n names k row =
     record { number = field_of n field.AftEntryFibStatus; kind = kind.Number; parts = number_parts (field_of n field.AftEntryFibStatus) (fib_status_of n row.installed) } ∷
     []
 
-row_spelled : (n : Numbers) (names : List (List ℕ)) (k : FieldKind) (row : Row) → row_bytes n names row ≡ spelled (whole (bunches n names k row))
+row_spelled : (n : Numbers) (names : List (List ℕ)) (k : FieldKind) (row : Row) → row_bytes n names row ≡ encoded_fields (whole (bunches n names k row))
 unfolding row_bytes row_entry_field bunches
 row_spelled n names k row =
-    let a = filled_field (field_of n field.AftEntryNetworkInstance) (instance_in names row) in
+    let a = nonempty_field (field_of n field.AftEntryNetworkInstance) (instance_in names row) in
     let b = bytes_field (member_in_row n row) (raw_bytes n (raw_in names row)) in
-    let c = number_field (field_of n field.AftEntryRibStatus) (value_of n value.EntryStatusProgrammed) in
-    let d = number_field (field_of n field.AftEntryFibStatus) (fib_status_of n row.installed) in
+    let c = nonzero_uint_field (field_of n field.AftEntryRibStatus) (value_of n value.EntryStatusProgrammed) in
+    let d = nonzero_uint_field (field_of n field.AftEntryFibStatus) (fib_status_of n row.installed) in
     let pa = filled_parts (field_of n field.AftEntryNetworkInstance) (instance_in names row) in
     let pc = number_parts (field_of n field.AftEntryRibStatus) (value_of n value.EntryStatusProgrammed) in
     let pd = number_parts (field_of n field.AftEntryFibStatus) (fib_status_of n row.installed) in
@@ -245,10 +245,10 @@ row_spelled n names k row =
       filled_spelled (field_of n field.AftEntryNetworkInstance) (instance_in names row),
       number_spelled (field_of n field.AftEntryRibStatus) (value_of n value.EntryStatusProgrammed),
       number_spelled (field_of n field.AftEntryFibStatus) (fib_status_of n row.installed),
-    ) (ap (λ (x : List ℕ). spelled pa ++ (x ++ (spelled pc ++ (spelled pd ++ [])))) (sym (append-nil b)))
+    ) (ap (λ (x : List ℕ). encoded_fields pa ++ (x ++ (encoded_fields pc ++ (encoded_fields pd ++ [])))) (sym (append-nil b)))
     ∙ sym (whole_spelled (bunches n names k row))
 
-bunches_hold : (n : Numbers) (names : List (List ℕ)) (row : Row) → IsValid n → IsRow names row → RowFits n names row → (e : IsHeld n (member_in_row n row) (raw_in names row))
+bunches_hold : (n : Numbers) (names : List (List ℕ)) (row : Row) → IsValid n → IsEncodableRow names row → RowFits n names row → (e : IsHeld n (member_in_row n row) (raw_in names row))
     → Each (IsBunch n message.AftEntry) (bunches n names e.kind row)
 unfolding bunches
 bunches_hold n names row valid h fit e =
@@ -301,10 +301,10 @@ none : Bunch
 none = record { number = 0; kind = kind.Unknown; parts = [] }
 
 -- what is heard of the oneof is in the entry's own field
-entry_heard : (n : Numbers) (names : List (List ℕ)) (k : FieldKind) (row : Row) → IsValid n → Each (IsBunch n message.AftEntry) (bunches n names k row)
+entry_scanned : (n : Numbers) (names : List (List ℕ)) (k : FieldKind) (row : Row) → IsValid n → Each (IsBunch n message.AftEntry) (bunches n names k row)
     → mems (row_members n) (whole (bunches n names k row)) ≡ mems (row_members n) (Text (member_in_row n row) (raw_bytes n (raw_in names row)) ∷ [])
 unfolding bunches
-entry_heard n names k row valid each =
+entry_scanned n names k row valid each =
     let m = message.AftEntry in
     let among = row_members n in
     let a : Bunch = record { number = field_of n field.AftEntryNetworkInstance; kind = kind.Text; parts = filled_parts (field_of n field.AftEntryNetworkInstance) (instance_in names row) } in
@@ -317,12 +317,12 @@ entry_heard n names k row valid each =
 record RowAgain (n : Numbers) (names : List (List ℕ)) (row : Row) (bytes : List ℕ) : Type 0 where
   pub clean : Clean n message.AftEntry bytes
   pub instance : name_at (field_of n field.AftEntryNetworkInstance) bytes ≡ instance_in names row
-  pub entry : option_map (row_entry n) (chosen_at (row_members n) bytes) ≡ Some (raw_in names row)
+  pub entry : option_map (row_entry n) (oneof_at (row_members n) bytes) ≡ Some (raw_in names row)
   pub rib : number_at (field_of n field.AftEntryRibStatus) bytes ≡ value_of n value.EntryStatusProgrammed
   pub fib : number_at (field_of n field.AftEntryFibStatus) bytes ≡ fib_status_of n row.installed
 
-row_parts_again : (n : Numbers) (names : List (List ℕ)) (row : Row) → IsValid n → IsRow names row → RowFits n names row → (e : IsHeld n (member_in_row n row) (raw_in names row))
-    → RowAgain n names row (spelled (whole (bunches n names e.kind row)))
+row_parts_again : (n : Numbers) (names : List (List ℕ)) (row : Row) → IsValid n → IsEncodableRow names row → RowFits n names row → (e : IsHeld n (member_in_row n row) (raw_in names row))
+    → RowAgain n names row (encoded_fields (whole (bunches n names e.kind row)))
 unfolding bunches text_of
 row_parts_again n names row valid h fit e =
     let m = message.AftEntry in
@@ -337,22 +337,22 @@ row_parts_again n names row valid h fit e =
     record {
       clean = whole_clean n m bs each;
       instance = ap text_of (text_said a (whole bs) legal ∙ ap (λ (x : List (List ℕ)). unwrap_or (last_or None x) []) (bits_at n m bs 0 none apart_ each (omega arith)) ∙ filled_text a (instance_in names row)) ∙ rw (is_utf8-from_IsUtf8 (instance_in names row) h.instance) refl;
-      entry = ap (option_map (row_entry n)) (chosen_said (row_members n) (whole bs) legal ∙ ap (chosen_after None) (entry_heard n names e.kind row valid each ∙ one)) ∙ ap Some e.read;
+      entry = ap (option_map (row_entry n)) (chosen_said (row_members n) (whole bs) legal ∙ ap (oneof_after None) (entry_scanned n names e.kind row valid each ∙ one)) ∙ ap Some e.read;
       rib = number_said c (whole bs) legal ∙ ap (λ (x : List ℕ). unwrap_or (last_or None x) 0) (nums_at n m bs 2 none apart_ each (omega arith)) ∙ number_own c (value_of n value.EntryStatusProgrammed);
       fib = number_said d (whole bs) legal ∙ ap (λ (x : List ℕ). unwrap_or (last_or None x) 0) (nums_at n m bs 3 none apart_ each (omega arith)) ∙ number_own d (fib_status_of n row.installed);
     }
 
-row_again : (n : Numbers) (names : List (List ℕ)) (row : Row) → IsValid n → IsRow names row → length (row_bytes n names row) < 2 ^ 64 → RowAgain n names row (row_bytes n names row)
+row_again : (n : Numbers) (names : List (List ℕ)) (row : Row) → IsValid n → IsEncodableRow names row → length (row_bytes n names row) < 2 ^ 64 → RowAgain n names row (row_bytes n names row)
 row_again n names row valid h fit =
     let short = row_fits n names row fit in
     let e = held n names row.entry.key.name row.entry.payload valid h.fits h.sent short.entry in
     rw (row_spelled n names e.kind row) (row_parts_again n names row valid h short e)
 
-row_clean : (n : Numbers) (names : List (List ℕ)) → IsValid n → (row : Row) → IsRow names row → length (row_bytes n names row) < 2 ^ 64 → Clean n message.AftEntry (row_bytes n names row)
+row_clean : (n : Numbers) (names : List (List ℕ)) → IsValid n → (row : Row) → IsEncodableRow names row → length (row_bytes n names row) < 2 ^ 64 → Clean n message.AftEntry (row_bytes n names row)
 row_clean n names valid row h fit = (row_again n names row valid h fit).clean
 
-row_read : (n : Numbers) (names : List (List ℕ)) (row : Row) → IsValid n → IsRow names row → length (row_bytes n names row) < 2 ^ 64 → row_of n (row_bytes n names row) ≡ row_sent n names row
-unfolding row_of row_sent
+row_read : (n : Numbers) (names : List (List ℕ)) (row : Row) → IsValid n → IsEncodableRow names row → length (row_bytes n names row) < 2 ^ 64 → row_of n (row_bytes n names row) ≡ row_as_read n names row
+unfolding row_of row_as_read
 row_read n names row valid h fit =
     let r = row_again n names row valid h fit in
     rw (r.instance, r.entry, r.rib, r.fib) refl
@@ -366,14 +366,14 @@ rows_are : (n : Numbers) (names : List (List ℕ)) (rows : List Row) → rows_by
 unfolding rows_bytes row_field
 rows_are n names rows = refl
 
-rows_read : (n : Numbers) (names : List (List ℕ)) (rows : List Row) → IsValid n → All (IsRow names) rows → length (many_bytes (row_number n) (row_bytes n names) rows) < 2 ^ 64
-    → map (row_of n) (map (row_bytes n names) rows) ≡ map (row_sent n names) rows
+rows_read : (n : Numbers) (names : List (List ℕ)) (rows : List Row) → IsValid n → All (IsEncodableRow names) rows → length (many_bytes (row_number n) (row_bytes n names) rows) < 2 ^ 64
+    → map (row_of n) (map (row_bytes n names) rows) ≡ map (row_as_read n names) rows
 rows_read n names [] valid h fit = refl
 rows_read n names (row ∷ rows) valid h fit =
     let first = bytes_field (row_number n) (row_bytes n names row) in
     let others = many_bytes (row_number n) (row_bytes n names) rows in
     let short = inner_fits (row_number n) (row_bytes n names row) (front_fits first others fit) in
-    rw (row_read n names row valid (All-head (IsRow names) row rows h) short, rows_read n names rows valid (All-tail (IsRow names) row rows h) (back_fits first others fit)) refl
+    rw (row_read n names row valid (All-head (IsEncodableRow names) row rows h) short, rows_read n names rows valid (All-tail (IsEncodableRow names) row rows h) (back_fits first others fit)) refl
 
 get_kind : (n : Numbers) → IsValid n → kind_of n message.GetResponse (row_number n) ≡ kind.Message message.AftEntry
 unfolding kind_of
@@ -382,24 +382,24 @@ get_kind n valid = listed_at (fields_of n message.GetResponse) 0 (0, kind.Unknow
 response_bunches : Numbers → List (List ℕ) → List Row → List Bunch
 response_bunches n names rows = record { number = row_number n; kind = kind.Message message.AftEntry; parts = many_parts (row_number n) (row_bytes n names) rows } ∷ []
 
-response_spelled : (n : Numbers) (names : List (List ℕ)) (rows : List Row) → many_bytes (row_number n) (row_bytes n names) rows ≡ spelled (whole (response_bunches n names rows))
+response_spelled : (n : Numbers) (names : List (List ℕ)) (rows : List Row) → many_bytes (row_number n) (row_bytes n names) rows ≡ encoded_fields (whole (response_bunches n names rows))
 unfolding response_bunches
 response_spelled n names rows =
-    many_spelled (row_number n) (row_bytes n names) rows ∙ sym (append-nil (spelled (many_parts (row_number n) (row_bytes n names) rows))) ∙ sym (whole_spelled (response_bunches n names rows))
+    many_spelled (row_number n) (row_bytes n names) rows ∙ sym (append-nil (encoded_fields (many_parts (row_number n) (row_bytes n names) rows))) ∙ sym (whole_spelled (response_bunches n names rows))
 
-response_hold : (n : Numbers) (names : List (List ℕ)) (rows : List Row) → IsValid n → All (IsRow names) rows → length (many_bytes (row_number n) (row_bytes n names) rows) < 2 ^ 64
+response_hold : (n : Numbers) (names : List (List ℕ)) (rows : List Row) → IsValid n → All (IsEncodableRow names) rows → length (many_bytes (row_number n) (row_bytes n names) rows) < 2 ^ 64
     → Each (IsBunch n message.GetResponse) (response_bunches n names rows)
 unfolding response_bunches
 response_hold n names rows valid h fit =
-    let all = many_bunch n message.AftEntry (row_number n) (row_bytes n names) (IsRow names) (row_clean n names valid) (in_range n field.GetResponseEntry valid) rows (each_from (IsRow names) rows h) fit in
+    let all = many_bunch n message.AftEntry (row_number n) (row_bytes n names) (IsEncodableRow names) (row_clean n names valid) (in_range n field.GetResponseEntry valid) rows (each_from (IsEncodableRow names) rows h) fit in
     ((get_kind n valid, all), tt)
 
 record RowsAgain (n : Numbers) (names : List (List ℕ)) (rows : List Row) (bytes : List ℕ) : Type 0 where
   pub clean : Clean n message.GetResponse bytes
-  pub read : map (row_of n) (repeated_at (row_number n) bytes) ≡ map (row_sent n names) rows
+  pub read : map (row_of n) (repeated_at (row_number n) bytes) ≡ map (row_as_read n names) rows
 
-response_parts_again : (n : Numbers) (names : List (List ℕ)) (rows : List Row) → IsValid n → All (IsRow names) rows → length (many_bytes (row_number n) (row_bytes n names) rows) < 2 ^ 64
-    → RowsAgain n names rows (spelled (whole (response_bunches n names rows)))
+response_parts_again : (n : Numbers) (names : List (List ℕ)) (rows : List Row) → IsValid n → All (IsEncodableRow names) rows → length (many_bytes (row_number n) (row_bytes n names) rows) < 2 ^ 64
+    → RowsAgain n names rows (encoded_fields (whole (response_bunches n names rows)))
 unfolding response_bunches
 response_parts_again n names rows valid h fit =
     let m = message.GetResponse in
@@ -413,8 +413,8 @@ response_parts_again n names rows valid h fit =
       read = ap (map (row_of n)) (repeated_said a (whole bs) legal ∙ bits_at n m bs 0 none apart_ each (omega arith) ∙ many_own a (row_bytes n names) rows) ∙ rows_read n names rows valid h fit;
     }
 
-pub get_response_again : (n : Numbers) (names : List (List ℕ)) (rows : List Row) → IsValid n → All (IsRow names) rows → length (rows_bytes n names rows) < 2 ^ 64
-    → (first_fault n message.GetResponse (rows_bytes n names rows) ≡ None) × (get_response n (rows_bytes n names rows) ≡ record { rows = map (row_sent n names) rows })
+pub get_response_again : (n : Numbers) (names : List (List ℕ)) (rows : List Row) → IsValid n → All (IsEncodableRow names) rows → length (rows_bytes n names rows) < 2 ^ 64
+    → (first_fault n message.GetResponse (rows_bytes n names rows) ≡ None) × (get_response n (rows_bytes n names rows) ≡ record { rows = map (row_as_read n names) rows })
 unfolding first_fault get_response
 get_response_again n names rows valid h fits_ =
     let short : length (many_bytes (row_number n) (row_bytes n names) rows) < 2 ^ 64 = rw (← rows_are n names rows) fits_ in
@@ -423,17 +423,17 @@ get_response_again n names rows valid h fits_ =
 
 -- ---- what is written
 
-pub row_is : (names : List (List ℕ)) (row : Row) (name : List ℕ) → fits row.entry.key.name row.entry.payload ≡ true → IsSent (raw_of names row.entry) → name ≡ slice_index_or names row.entry.key.instance [] → IsUtf8 name → IsRow names row
+pub row_is : (names : List (List ℕ)) (row : Row) (name : List ℕ) → fits row.entry.key.name row.entry.payload ≡ true → IsEncodable (raw_of names row.entry) → name ≡ slice_index_or names row.entry.key.instance [] → IsUtf8 name → IsEncodableRow names row
 row_is names row name fit sent is utf8 = record { fits = fit; sent = sent; instance = subst IsUtf8 is utf8 }
 
-pub rows_more : (names : List (List ℕ)) (rows : List Row) (i : ℕ) (row : Row) → i < length rows → row ≡ get_or rows i row → All (IsRow names) (take i rows) → IsRow names row → All (IsRow names) (take (i + 1) rows)
-rows_more names rows i row lt is before one = All-more (IsRow names) rows i row lt before (subst (IsRow names) is one)
+pub rows_more : (names : List (List ℕ)) (rows : List Row) (i : ℕ) (row : Row) → i < length rows → row ≡ get_or rows i row → All (IsEncodableRow names) (take i rows) → IsEncodableRow names row → All (IsEncodableRow names) (take (i + 1) rows)
+rows_more names rows i row lt is before one = All-more (IsEncodableRow names) rows i row lt before (subst (IsEncodableRow names) is one)
 
-pub rows_all : (names : List (List ℕ)) (rows : List Row) (i : ℕ) → length rows ≤ i → All (IsRow names) (take i rows) → All (IsRow names) rows
-rows_all names rows i le all = subst (All (IsRow names)) (take_all i rows le) all
+pub rows_all : (names : List (List ℕ)) (rows : List Row) (i : ℕ) → length rows ≤ i → All (IsEncodableRow names) (take i rows) → All (IsEncodableRow names) rows
+rows_all names rows i le all = subst (All (IsEncodableRow names)) (take_all i rows le) all
 
-pub written_again : (n : Numbers) (names : List (List ℕ)) (rows : List Row) (start bytes : List ℕ) → IsValid n → All (IsRow names) rows → start ≡ [] → bytes ≡ start ++ rows_bytes n names rows → length bytes < 2 ^ 64
-    → (first_fault n message.GetResponse bytes ≡ None) × (get_response n bytes ≡ record { rows = map (row_sent n names) rows })
+pub written_again : (n : Numbers) (names : List (List ℕ)) (rows : List Row) (start bytes : List ℕ) → IsValid n → All (IsEncodableRow names) rows → start ≡ [] → bytes ≡ start ++ rows_bytes n names rows → length bytes < 2 ^ 64
+    → (first_fault n message.GetResponse bytes ≡ None) × (get_response n bytes ≡ record { rows = map (row_as_read n names) rows })
 written_again n names rows start bytes valid all empty is fits_ =
     let same : bytes ≡ rows_bytes n names rows = rw (is, empty) refl in
     rw same (get_response_again n names rows valid all (subst (λ (x : List ℕ). length x < 2 ^ 64) same fits_))

@@ -8,13 +8,13 @@ use Rattle.std.proofs.lemmas.Str.{IsUtf8-from_is_utf8}
 use Rattle.std.proofs.lemmas.Bool.{eqb-true}
 use Rattle.std.proofs.lemmas.List.Elements.{All-nil, All-cons, All-head, All-tail}
 use Rattle.proto_wire.specs.Wire.{Value, Varint, Eight, Bytes, Four}
-use Rattle.proto_wire.specs.Fields.{Spot}
+use Rattle.proto_wire.specs.Fields.{FieldSpan}
 use Rattle.proto_schema.specs.declared.schema.FieldKind.{FieldKind}
 use Rattle.proto_schema.specs.declared.schema.FieldKind.TheVariants.{Text}
 use Rattle.proto_schema.specs.declared.legal.MessageFault.{MessageFault}
 use Rattle.proto_schema.specs.declared.legal.MessageFault.TheVariants.{Utf8}
-use Rattle.proto_schema.specs.Words.{member_in, members}
-use Rattle.proto_schema.specs.Legal.{Deeper, fault_of_value, fault_of_fields}
+use Rattle.proto_schema.specs.FieldValues.{member_in, members}
+use Rattle.proto_schema.specs.Legal.{NestedCheck, fault_of_value, fault_of_fields}
 
 -- a member of this number is UTF-8
 abbrev pub IsText : ℕ → (ℕ × List ℕ) → Type 0
@@ -32,11 +32,11 @@ no_utf8_fault : (place : ℕ) (b : Bool) → cond b None (Some (Utf8 place)) ≡
 no_utf8_fault place true h = refl
 no_utf8_fault place false h = cc
 
-good_text : (deeper : Deeper) (kind : FieldKind) (place ending : ℕ) (bytes : List ℕ) → kind ≡ Text → fault_of_value deeper kind place ending (Bytes bytes) ≡ None → IsUtf8 bytes
+good_text : (deeper : NestedCheck) (kind : FieldKind) (place ending : ℕ) (bytes : List ℕ) → kind ≡ Text → fault_of_value deeper kind place ending (Bytes bytes) ≡ None → IsUtf8 bytes
 good_text deeper kind place ending bytes is h =
     IsUtf8-from_is_utf8 bytes (no_utf8_fault place (is_utf8 bytes) (subst (λ (k : FieldKind). fault_of_value deeper k place ending (Bytes bytes) ≡ None) is h))
 
-one_member : (deeper : Deeper) (kinds : ℕ → FieldKind) (among : List ℕ) (name : ℕ) → kinds name ≡ Text → (number place ending : ℕ) (value : Value) (others : List (ℕ × List ℕ))
+one_member : (deeper : NestedCheck) (kinds : ℕ → FieldKind) (among : List ℕ) (name : ℕ) → kinds name ≡ Text → (number place ending : ℕ) (value : Value) (others : List (ℕ × List ℕ))
     → fault_of_value deeper (kinds number) place ending value ≡ None → All (IsText name) others → All (IsText name) (cons_option (member_in among number value) others)
 one_member deeper kinds among name is number place ending (Varint v) others h rest = rest
 one_member deeper kinds among name is number place ending (Eight v) others h rest = rest
@@ -47,7 +47,7 @@ one_member deeper kinds among name is number place ending (Bytes bytes) others h
     by true = All-cons (IsText name) (number, bytes) others (λ e. good_text deeper (kinds number) place ending bytes (ap kinds (eqb-true number name e) ∙ is) h) rest
     by false = rest
 
-members_good : (deeper : Deeper) (kinds : ℕ → FieldKind) (among : List ℕ) (name : ℕ) → kinds name ≡ Text → (fs : List Spot) (end : Option MessageFault)
+members_good : (deeper : NestedCheck) (kinds : ℕ → FieldKind) (among : List ℕ) (name : ℕ) → kinds name ≡ Text → (fs : List FieldSpan) (end : Option MessageFault)
     → fault_of_fields deeper kinds fs end ≡ None → All (IsText name) (members among fs)
 members_good deeper kinds among name is [] end h = All-nil (IsText name)
 members_good deeper kinds among name is (f ∷ fs) end h =
@@ -60,6 +60,6 @@ last_good P before [] h all = h
 last_good P before (x ∷ xs) h all = last_good P (Some x) xs (All-head P x xs all) (All-tail P x xs all)
 
 -- the last member of a oneof, where it is a known text
-pub last_member_good : (deeper : Deeper) (kinds : ℕ → FieldKind) (among : List ℕ) (name : ℕ) (fs : List Spot) (end : Option MessageFault) → kinds name ≡ Text
+pub last_member_good : (deeper : NestedCheck) (kinds : ℕ → FieldKind) (among : List ℕ) (name : ℕ) (fs : List FieldSpan) (end : Option MessageFault) → kinds name ≡ Text
     → fault_of_fields deeper kinds fs end ≡ None → IfSome (last_or None (members among fs)) (IsText name)
 last_member_good deeper kinds among name fs end is h = last_good (IsText name) None (members among fs) tt (members_good deeper kinds among name is fs end h)

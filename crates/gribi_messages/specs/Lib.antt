@@ -1,7 +1,7 @@
-pub mod Heard
+pub mod ScannedFields
 pub mod Request
 pub mod Response
-pub mod Asks
-pub mod Spelled
+pub mod GetAndFlush
+pub mod RequestEncoding
 pub mod Rows
-pub mod Fitting
+pub mod EncodableMessages

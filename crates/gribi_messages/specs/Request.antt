@@ -4,7 +4,7 @@ use Rattle.std.specs.Option.{option_map}
 use Rattle.schema_numbers.specs.Numbers.{Numbers, field_of, value_of}
 use Rattle.schema_numbers.specs.declared.names.FieldName.TheVariants as field
 use Rattle.schema_numbers.specs.declared.names.ValueName.TheVariants as value
-use Rattle.proto_schema.specs.Words.{number_at, message_at, repeated_at, chosen_at}
+use Rattle.proto_schema.specs.FieldValues.{number_at, message_at, repeated_at, oneof_at}
 use Rattle.aft_entries.specs.declared.key.Kind.TheVariants as kind
 use Rattle.aft_entries.specs.declared.operation.Op.{Op}
 use Rattle.aft_entries.specs.declared.operation.Op.TheVariants.{Add, Replace, Delete}
@@ -64,7 +64,7 @@ operation_of n bytes = record {
   id = number_at (field_of n field.AftOperationId) bytes;
   instance = name_at (field_of n field.AftOperationNetworkInstance) bytes;
   op = op_of n (number_at (field_of n field.AftOperationOp) bytes);
-  entry = option_map (member_entry n) (chosen_at (entry_members n) bytes);
+  entry = option_map (member_entry n) (oneof_at (entry_members n) bytes);
   election = option_map (uint128_of n) (message_at (field_of n field.AftOperationElectionId) bytes);
 }
 

@@ -5,10 +5,10 @@ use Rattle.std.specs.List.{flat_map}
 use Rattle.std.specs.Option.{option_map, option_map_or}
 use Rattle.std.specs.Int.{w64, cast_signed, cast_unsigned}
 use Rattle.proto_wire.specs.Written.{bytes_field}
-use Rattle.aft_messages.specs.Writing.{number_field}
+use Rattle.aft_messages.specs.Writing.{nonzero_uint_field}
 use Rattle.schema_numbers.specs.Numbers.{Numbers, field_of}
 use Rattle.schema_numbers.specs.declared.names.FieldName.TheVariants as field
-use Rattle.proto_schema.specs.Words.{number_at, message_at, repeated_at}
+use Rattle.proto_schema.specs.FieldValues.{number_at, message_at, repeated_at}
 use Rattle.gribi_messages.specs.Request.{uint128_of}
 use Rattle.gribi_messages.specs.declared.response.AftResult.{AftResult}
 use Rattle.gribi_messages.specs.declared.response.ModifyResponse.{ModifyResponse}
@@ -16,21 +16,21 @@ use Rattle.gribi_messages.specs.declared.response.ModifyResponse.{ModifyResponse
 -- the moment is written as its u64 in two's complement
 unfoldable pub result_bytes : Numbers → AftResult → List ℕ
 result_bytes n r =
-    number_field (field_of n field.AftResultId) r.id
-    ++ number_field (field_of n field.AftResultStatus) r.status
-    ++ number_field (field_of n field.AftResultTimestamp) (cast_unsigned w64 r.timestamp)
-    ++ number_field (field_of n field.AftResultReason) r.reason
+    nonzero_uint_field (field_of n field.AftResultId) r.id
+    ++ nonzero_uint_field (field_of n field.AftResultStatus) r.status
+    ++ nonzero_uint_field (field_of n field.AftResultTimestamp) (cast_unsigned w64 r.timestamp)
+    ++ nonzero_uint_field (field_of n field.AftResultReason) r.reason
 
 unfoldable pub uint128_bytes : Numbers → ℕ → List ℕ
 uint128_bytes n value =
-    number_field (field_of n field.Uint128High) (value / 2 ^ 64) ++ number_field (field_of n field.Uint128Low) (value % 2 ^ 64)
+    nonzero_uint_field (field_of n field.Uint128High) (value / 2 ^ 64) ++ nonzero_uint_field (field_of n field.Uint128Low) (value % 2 ^ 64)
 
 unfoldable pub result_field : Numbers → AftResult → List ℕ
 result_field n r = bytes_field (field_of n field.ModifyResponseResult) (result_bytes n r)
 
 unfoldable pub params_field : Numbers → ℕ → List ℕ
 params_field n status =
-    bytes_field (field_of n field.ModifyResponseSessionParamsResult) (number_field (field_of n field.SessionParametersResultStatus) status)
+    bytes_field (field_of n field.ModifyResponseSessionParamsResult) (nonzero_uint_field (field_of n field.SessionParametersResultStatus) status)
 
 unfoldable pub election_field : Numbers → ℕ → List ℕ
 election_field n id = bytes_field (field_of n field.ModifyResponseElectionId) (uint128_bytes n id)

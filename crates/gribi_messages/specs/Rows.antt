@@ -6,15 +6,15 @@ use Rattle.proto_wire.specs.Written.{bytes_field}
 use Rattle.schema_numbers.specs.Numbers.{Numbers, field_of, value_of}
 use Rattle.schema_numbers.specs.declared.names.FieldName.TheVariants as field
 use Rattle.schema_numbers.specs.declared.names.ValueName.TheVariants as value
-use Rattle.proto_schema.specs.Words.{number_at, repeated_at, chosen_at}
+use Rattle.proto_schema.specs.FieldValues.{number_at, repeated_at, oneof_at}
 use Rattle.aft_entries.specs.declared.key.Kind.TheVariants as kind
 use Rattle.aft_entries.specs.declared.key.KeyName.{KeyName}
 use Rattle.aft_entries.specs.declared.key.KeyName.TheVariants as name
 use Rattle.aft_entries.specs.declared.operation.RawEntry.{RawEntry}
 use Rattle.aft_entries.specs.declared.operation.Row.{Row}
 use Rattle.aft_messages.specs.Reading.{name_at, entry_of}
-use Rattle.aft_messages.specs.Writing.{number_field, filled_field, raw_bytes}
-use Rattle.aft_messages.specs.Printing.{raw_of, IsNamed}
+use Rattle.aft_messages.specs.Writing.{nonzero_uint_field, nonempty_field, raw_bytes}
+use Rattle.aft_messages.specs.Printing.{raw_of, HasKnownInstance}
 use Rattle.gribi_messages.specs.declared.rows.RawRow.{RawRow}
 use Rattle.gribi_messages.specs.declared.rows.GetResponse.{GetResponse}
 
@@ -41,7 +41,7 @@ row_entry n member =
 unfoldable pub row_of : Numbers → List ℕ → RawRow
 row_of n bytes = record {
   instance = name_at (field_of n field.AftEntryNetworkInstance) bytes;
-  entry = option_map (row_entry n) (chosen_at (row_members n) bytes);
+  entry = option_map (row_entry n) (oneof_at (row_members n) bytes);
   rib_status = number_at (field_of n field.AftEntryRibStatus) bytes;
   fib_status = number_at (field_of n field.AftEntryFibStatus) bytes;
 }
@@ -67,10 +67,10 @@ row_entry_field n names row = bytes_field (row_member n row.entry.key.name) (raw
 -- Each entry is programmed in the RIB; whether it is in the FIB the row says. The instances have these names.
 unfoldable pub row_bytes : Numbers → List (List ℕ) → Row → List ℕ
 row_bytes n names row =
-    filled_field (field_of n field.AftEntryNetworkInstance) (slice_index_or names row.entry.key.instance [])
+    nonempty_field (field_of n field.AftEntryNetworkInstance) (slice_index_or names row.entry.key.instance [])
     ++ row_entry_field n names row
-    ++ number_field (field_of n field.AftEntryRibStatus) (value_of n value.EntryStatusProgrammed)
-    ++ number_field (field_of n field.AftEntryFibStatus) (if row.installed then value_of n value.EntryStatusProgrammed else value_of n value.EntryStatusNotProgrammed)
+    ++ nonzero_uint_field (field_of n field.AftEntryRibStatus) (value_of n value.EntryStatusProgrammed)
+    ++ nonzero_uint_field (field_of n field.AftEntryFibStatus) (if row.installed then value_of n value.EntryStatusProgrammed else value_of n value.EntryStatusNotProgrammed)
 
 unfoldable pub row_field : Numbers → List (List ℕ) → Row → List ℕ
 row_field n names row = bytes_field (field_of n field.GetResponseEntry) (row_bytes n names row)
@@ -85,8 +85,8 @@ abbrev pub fib_status_of : Numbers → Bool → ℕ
 fib_status_of n installed = if installed then value_of n value.EntryStatusProgrammed else value_of n value.EntryStatusNotProgrammed
 
 -- A row as it is read: its entry's texts in their printed forms.
-unfoldable pub row_sent : Numbers → List (List ℕ) → Row → RawRow
-row_sent n names row = record {
+unfoldable pub row_as_read : Numbers → List (List ℕ) → Row → RawRow
+row_as_read n names row = record {
   instance = slice_index_or names row.entry.key.instance [];
   entry = Some (raw_of names row.entry);
   rib_status = value_of n value.EntryStatusProgrammed;
@@ -94,5 +94,5 @@ row_sent n names row = record {
 }
 
 -- the instance numbers of a row are names of the list
-abbrev pub IsRowNamed : ℕ → Row → Type 0
-IsRowNamed count row = (row.entry.key.instance < count) × IsNamed count row.entry.payload
+abbrev pub RowHasKnownInstances : ℕ → Row → Type 0
+RowHasKnownInstances count row = (row.entry.key.instance < count) × HasKnownInstance count row.entry.payload

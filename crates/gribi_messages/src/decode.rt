@@ -2,23 +2,25 @@ ghost use Rattle.std.specs.Prelude.{◌≡◌, ℕ, List, IfOk, IfSome, MatchOpt
 ghost use Rattle.std.specs.Option.{option_map};
 ghost use Rattle.proto_schema.specs.declared.schema.MessageKind.TheVariants as message;
 ghost use Rattle.proto_schema.specs.Legal.{first_fault as fault_of};
-ghost use Rattle.proto_schema.specs.Words.{message_at as joined_at, repeated_at};
-ghost use Rattle.proto_schema.specs.Chosen.{chosen_seen};
+ghost use Rattle.proto_schema.specs.FieldValues.{message_at as merged_at, repeated_at};
+ghost use Rattle.proto_schema.specs.OneofMember.{oneof_member_view};
 ghost use Rattle.schema_numbers.specs.Numbers.{field_of};
 ghost use Rattle.aft_messages.specs.Decodes.{Decodes};
 ghost use Rattle.aft_messages.specs.Reading.{entry_of as entry_said};
-ghost use Rattle.aft_entries.specs.Bare.{bare_raw, bare_operation};
+ghost use Rattle.aft_entries.specs.IndexOnly.{index_only_raw, index_only_operation};
 ghost use Rattle.aft_entries.specs.declared.operation.RawEntry.TheVariants as entry;
-ghost use Rattle.gribi_messages.specs.Heard.{operation_in};
+ghost use Rattle.gribi_messages.specs.ScannedFields.{operation_of_scanned};
 ghost use Rattle.gribi_messages.specs.Request.{params_of as params_said, uint128_of as uint128_said, op_of as op_said, operation_of as operation_said, member_entry, unread_member as unread_said, entry_members, modify_request, operations_of as operations_said, parameters_of as parameters_said};
 
-use crate::heard::{Heard, hear, hear_asks, numbers_at};
 use crate::lists::RawOperations;
-use crate::pieces::OperationPieces;
+use crate::pieces::OperationReader;
 use crate::request::{ModifyRequest, RawParams};
+use crate::scanned::{ScannedFields, numbers_at, scan_fields, scan_header};
 use aft_entries::{Kind, Op, RawEntry, RawOperation};
-use aft_messages::{bare_hop_index, read_entry, read_text, text_in};
-use proto_schema::{Chosen, Joined, MessageFault, MessageKind, first_fault, message_at, number_at};
+use aft_messages::{index_only_hop_index, read_entry, read_text, text_in};
+use proto_schema::{
+    MergedBytes, MessageFault, MessageKind, OneofMember, first_fault, message_at, number_at,
+};
 use schema_numbers::{FieldName, Numbering, ValueName};
 use std::alloc::{AllocError, Global};
 
@@ -64,7 +66,7 @@ pub fn election_of(
     wanted: u32,
     bytes: &[u8],
 ) -> Result<Option<u128>, AllocError>
-    ensures { IfOk result (λ id. id ≡ option_map (uint128_said n.now) (joined_at wanted bytes.now)) }
+    ensures { IfOk result (λ id. id ≡ option_map (uint128_said n.now) (merged_at wanted bytes.now)) }
 {
     match message_at(alloc, wanted, bytes)? {
         None => Ok(None),
@@ -103,8 +105,8 @@ fn unread_entry(n: &Numbering, number: u32) -> RawEntry
 }
 
 // What a member of the oneof of an entry says.
-fn entry_of(alloc: Global, n: &Numbering, member: &Chosen<'_>) -> Result<RawEntry, AllocError>
-    ensures { IfOk result (λ entry. entry ≡ member_entry n.now (chosen_seen member.now)) }
+fn entry_of(alloc: Global, n: &Numbering, member: &OneofMember<'_>) -> Result<RawEntry, AllocError>
+    ensures { IfOk result (λ entry. entry ≡ member_entry n.now (oneof_member_view member.now)) }
 {
     match kind_of(n, member.number) {
         Some(kind) => read_entry(alloc, n, member.bytes.as_bytes(), kind),
@@ -115,19 +117,19 @@ fn entry_of(alloc: Global, n: &Numbering, member: &Chosen<'_>) -> Result<RawEntr
 /// Hears the fields of an operation, which together are what it says.
 #[tactic(auto, unfolding(crate::specs::Request::operation_of))]
 #[inline(always)]
-pub fn hear_operation<'a>(
+pub fn scan_operation<'a>(
     alloc: Global,
     n: &Numbering,
     bytes: &'a [u8],
-) -> Result<Heard<'a>, AllocError>
-    ensures { IfOk result (λ heard. operation_in n.now heard ≡ operation_said n.now bytes.now) }
+) -> Result<ScannedFields<'a>, AllocError>
+    ensures { IfOk result (λ scanned. operation_of_scanned n.now scanned ≡ operation_said n.now bytes.now) }
 {
-    hear(alloc, n, bytes)
+    scan_fields(alloc, n, bytes)
 }
 
 // The election id in the message that was heard.
 #[inline(always)]
-fn election_heard(n: &Numbering, election: &Option<Joined<'_>>) -> Option<u128>
+fn scanned_election(n: &Numbering, election: &Option<MergedBytes<'_>>) -> Option<u128>
     ensures { result ≡ option_map (uint128_said n.now) election.now }
 {
     match election {
@@ -137,18 +139,18 @@ fn election_heard(n: &Numbering, election: &Option<Joined<'_>>) -> Option<u128>
 }
 
 /// What was heard of an operation, put together.
-pub fn operation_heard(
+pub fn scanned_operation(
     alloc: Global,
     n: &Numbering,
-    heard: &Heard<'_>,
+    scanned: &ScannedFields<'_>,
 ) -> Result<RawOperation, AllocError>
-    ensures { IfOk result (λ operation. operation ≡ operation_in n.now heard.now) }
+    ensures { IfOk result (λ operation. operation ≡ operation_of_scanned n.now scanned.now) }
 {
-    let instance = read_text(alloc, heard.instance.unwrap_or(&[]))?;
-    let election = election_heard(n, &heard.election);
-    let id = heard.id.unwrap_or(0);
-    let op = op_of(n, heard.op.unwrap_or(0));
-    match &heard.entry {
+    let instance = read_text(alloc, scanned.instance.unwrap_or(&[]))?;
+    let election = scanned_election(n, &scanned.election);
+    let id = scanned.id.unwrap_or(0);
+    let op = op_of(n, scanned.op.unwrap_or(0));
+    match &scanned.entry {
         None => Ok(RawOperation {
             id,
             instance,
@@ -173,15 +175,15 @@ pub fn operation_heard(
 pub fn operation_of(alloc: Global, n: &Numbering, bytes: &[u8]) -> Result<RawOperation, AllocError>
     ensures { IfOk result (λ operation. operation ≡ operation_said n.now bytes.now) }
 {
-    match hear_operation(alloc, n, bytes) {
-        Ok(heard) => operation_heard(alloc, n, &heard),
+    match scan_operation(alloc, n, bytes) {
+        Ok(scanned) => scanned_operation(alloc, n, &scanned),
         Err(lack) => Err(lack),
     }
 }
 
 /// An operation on a next hop of which nothing is said but its index.
 #[derive(Clone, Copy, Drop)]
-pub struct BareHop<'a> {
+pub struct IndexOnlyHop<'a> {
     pub id: u64,
     pub instance: &'a str,
     pub op: Option<Op>,
@@ -191,39 +193,39 @@ pub struct BareHop<'a> {
 
 // The index of the next hop that the member is, where the member says nothing else.
 #[inline(always)]
-fn index_alone(n: &Numbering, member: &Chosen<'_>) -> Option<u64>
-    ensures { IfSome result (λ index. member_entry n.now (chosen_seen member.now) ≡ entry.Hop index bare_raw) }
+fn index_alone(n: &Numbering, member: &OneofMember<'_>) -> Option<u64>
+    ensures { IfSome result (λ index. member_entry n.now (oneof_member_view member.now) ≡ entry.Hop index index_only_raw) }
 {
     match kind_of(n, member.number) {
-        Some(Kind::Hop) => bare_hop_index(n, member.bytes.as_bytes()),
+        Some(Kind::Hop) => index_only_hop_index(n, member.bytes.as_bytes()),
         _ => None,
     }
 }
 
 /// The operation that was heard, where it is on a next hop of which nothing is said but its index.
 #[inline(always)]
-pub fn bare_hop_in<'a>(n: &Numbering, heard: &Heard<'a>) -> Option<BareHop<'a>>
-    ensures { IfSome result (λ bare. operation_in n.now heard.now ≡ bare_operation bare.id bare.instance.now bare.op bare.index bare.election) }
+pub fn index_only_hop<'a>(n: &Numbering, scanned: &ScannedFields<'a>) -> Option<IndexOnlyHop<'a>>
+    ensures { IfSome result (λ bare. operation_of_scanned n.now scanned.now ≡ index_only_operation bare.id bare.instance.now bare.op bare.index bare.election) }
 {
-    let member = match &heard.entry {
+    let member = match &scanned.entry {
         None => return None,
         Some(member) => member,
     };
     match index_alone(n, member) {
         None => None,
-        Some(index) => Some(BareHop {
-            id: heard.id.unwrap_or(0),
-            instance: text_in(heard.instance.unwrap_or(&[])),
-            op: op_of(n, heard.op.unwrap_or(0)),
+        Some(index) => Some(IndexOnlyHop {
+            id: scanned.id.unwrap_or(0),
+            instance: text_in(scanned.instance.unwrap_or(&[])),
+            op: op_of(n, scanned.op.unwrap_or(0)),
             index,
-            election: election_heard(n, &heard.election),
+            election: scanned_election(n, &scanned.election),
         }),
     }
 }
 
 /// The session parameters that a request asks for, and its election id, heard in one pass.
 #[tactic(auto, unfolding(crate::specs::Request::modify_request))]
-pub fn asks_of(
+pub fn header_of(
     alloc: Global,
     n: &Numbering,
     bytes: &[u8],
@@ -231,12 +233,12 @@ pub fn asks_of(
     ensures params { IfOk result (λ asks. asks.0 ≡ (modify_request n.now bytes.now).params) }
     ensures election { IfOk result (λ asks. asks.1 ≡ (modify_request n.now bytes.now).election) }
 {
-    let heard = hear_asks(alloc, n, bytes)?;
-    let params = match &heard.params {
+    let scanned = scan_header(alloc, n, bytes)?;
+    let params = match &scanned.params {
         None => None,
         Some(params) => Some(params_of(n, params.as_bytes())),
     };
-    let election = match &heard.election {
+    let election = match &scanned.election {
         None => None,
         Some(id) => Some(uint128_of(n, id.as_bytes())),
     };
@@ -247,7 +249,7 @@ fn operations_of(alloc: Global, n: &Numbering, bytes: &[u8]) -> Result<RawOperat
     ensures { IfOk result (λ all. all ≡ operations_said n.now bytes.now) }
 {
     let mut all = RawOperations::new(alloc);
-    let mut pieces = OperationPieces::new(n, bytes);
+    let mut pieces = OperationReader::new(n, bytes);
     while let Some(piece) = pieces.next() {
         all.push(operation_of(alloc, n, piece)?)?;
     }
@@ -258,7 +260,7 @@ fn operations_of(alloc: Global, n: &Numbering, bytes: &[u8]) -> Result<RawOperat
 fn request_of(alloc: Global, n: &Numbering, bytes: &[u8]) -> Result<ModifyRequest, AllocError>
     ensures { IfOk result (λ request. request ≡ modify_request n.now bytes.now) }
 {
-    let (params, election) = asks_of(alloc, n, bytes)?;
+    let (params, election) = header_of(alloc, n, bytes)?;
     let operations = operations_of(alloc, n, bytes)?;
     Ok(ModifyRequest {
         operations,

@@ -2,26 +2,26 @@ ghost use Rattle.std.specs.Prelude.{◌≡◌, ◌++◌, [], IfOk, OnOk, OnErr, 
 ghost use Rattle.std.specs.Option.{option_map, option_map_or};
 ghost use Rattle.proto_schema.specs.declared.schema.MessageKind.TheVariants as message;
 ghost use Rattle.proto_schema.specs.Legal.{first_fault as fault_of};
-ghost use Rattle.proto_schema.specs.Words.{chosen_at as chosen_member};
+ghost use Rattle.proto_schema.specs.FieldValues.{oneof_at as oneof_member};
 ghost use Rattle.aft_messages.specs.Decodes.{Decodes};
-ghost use Rattle.gribi_messages.specs.Asks.{flush_ask as ask_said, flush_election_members, flush_ask_field, flush_request, flush_bytes, flush_response, flush_response_bytes};
+ghost use Rattle.gribi_messages.specs.GetAndFlush.{flush_ask as ask_said, flush_election_members, flush_ask_field, flush_request, flush_bytes, flush_response, flush_response_bytes};
 
 use crate::asks::{FlushAsk, FlushRequest, FlushResponse};
 use crate::decode::uint128_of;
 use crate::instance::{instance_of, write_instance};
 use crate::writers::write_uint128;
-use aft_messages::write_two;
-use proto_schema::{MessageFault, MessageKind, chosen_at, first_fault, number_at};
+use aft_messages::write_two_uints;
+use proto_schema::{MessageFault, MessageKind, first_fault, number_at, oneof_at};
 use proto_wire::write_bytes;
 use schema_numbers::{FieldName, Numbering};
 use std::alloc::{AllocError, Global};
 
 fn ask_of(alloc: Global, n: &Numbering, bytes: &[u8]) -> Result<Option<FlushAsk>, AllocError>
-    ensures { IfOk result (λ ask. ask ≡ option_map (ask_said n.now) (chosen_member (flush_election_members n.now) bytes.now)) }
+    ensures { IfOk result (λ ask. ask ≡ option_map (ask_said n.now) (oneof_member (flush_election_members n.now) bytes.now)) }
 {
     let id = n.field(FieldName::FlushRequestId);
     let members = [id, n.field(FieldName::FlushRequestOverride)];
-    match chosen_at(alloc, &members, bytes)? {
+    match oneof_at(alloc, &members, bytes)? {
         None => Ok(None),
         Some(chosen) => {
             if chosen.number == id {
@@ -33,7 +33,7 @@ fn ask_of(alloc: Global, n: &Numbering, bytes: &[u8]) -> Result<Option<FlushAsk>
     }
 }
 
-#[tactic(auto, unfolding(crate::specs::Asks::flush_request))]
+#[tactic(auto, unfolding(crate::specs::GetAndFlush::flush_request))]
 fn request_of(alloc: Global, n: &Numbering, bytes: &[u8]) -> Result<FlushRequest, AllocError>
     requires { fault_of n.now message.FlushRequest bytes.now ≡ None }
     ensures { IfOk result (λ request. request ≡ flush_request n.now bytes.now) }
@@ -75,7 +75,7 @@ fn write_ask(n: &Numbering, ask: Option<FlushAsk>, out: &mut Vec<u8>) -> Result<
 }
 
 /// The one spelling of a request of a Flush call, or want of memory.
-#[tactic(auto, unfolding(crate::specs::Asks::flush_bytes))]
+#[tactic(auto, unfolding(crate::specs::GetAndFlush::flush_bytes))]
 pub fn encode_flush_request(
     alloc: Global,
     n: &Numbering,
@@ -92,7 +92,7 @@ pub fn encode_flush_request(
 }
 
 /// The answer of a Flush call that the bytes spell, or the first fault of the bytes with its place. It takes no memory.
-#[tactic(auto, unfolding(crate::specs::Asks::flush_response))]
+#[tactic(auto, unfolding(crate::specs::GetAndFlush::flush_response))]
 pub fn decode_flush_response(n: &Numbering, bytes: &[u8]) -> Result<FlushResponse, MessageFault>
     ensures { Decodes result (fault_of n.now message.FlushResponse bytes.now) (flush_response n.now bytes.now) }
 {
@@ -107,7 +107,7 @@ pub fn decode_flush_response(n: &Numbering, bytes: &[u8]) -> Result<FlushRespons
 }
 
 /// The one spelling of an answer of a Flush call, or want of memory.
-#[tactic(auto, unfolding(crate::specs::Asks::flush_response_bytes))]
+#[tactic(auto, unfolding(crate::specs::GetAndFlush::flush_response_bytes))]
 pub fn encode_flush_response(
     alloc: Global,
     n: &Numbering,
@@ -116,7 +116,7 @@ pub fn encode_flush_response(
     ensures { IfOk result (λ bytes. bytes.items ≡ flush_response_bytes n.now r) }
 {
     let mut out = Vec::new(alloc);
-    write_two(
+    write_two_uints(
         n.field(FieldName::FlushResponseTimestamp),
         r.timestamp.cast_unsigned(),
         n.field(FieldName::FlushResponseResult),

@@ -2,16 +2,16 @@ ghost use Rattle.std.specs.Prelude.{◌≡◌, IfOk, None};
 ghost use Rattle.proto_schema.specs.declared.schema.MessageKind.TheVariants as message;
 ghost use Rattle.proto_schema.specs.Legal.{first_fault as fault_of};
 ghost use Rattle.aft_messages.specs.Decodes.{Decodes};
-ghost use Rattle.gribi_messages.specs.Asks.{get_request, get_bytes};
+ghost use Rattle.gribi_messages.specs.GetAndFlush.{get_request, get_bytes};
 
 use crate::asks::GetRequest;
 use crate::instance::{instance_of, write_instance};
-use aft_messages::write_number;
+use aft_messages::write_nonzero_uint;
 use proto_schema::{MessageFault, MessageKind, first_fault, number_at};
 use schema_numbers::{FieldName, Numbering};
 use std::alloc::{AllocError, Global};
 
-#[tactic(auto, unfolding(crate::specs::Asks::get_request))]
+#[tactic(auto, unfolding(crate::specs::GetAndFlush::get_request))]
 fn request_of(alloc: Global, n: &Numbering, bytes: &[u8]) -> Result<GetRequest, AllocError>
     requires { fault_of n.now message.GetRequest bytes.now ≡ None }
     ensures { IfOk result (λ request. request ≡ get_request n.now bytes.now) }
@@ -39,7 +39,7 @@ pub fn decode_get(alloc: Global, n: &Numbering, bytes: &[u8]) -> Result<GetReque
 }
 
 /// The one spelling of a request of a Get call, or want of memory.
-#[tactic(auto, unfolding(crate::specs::Asks::get_bytes))]
+#[tactic(auto, unfolding(crate::specs::GetAndFlush::get_bytes))]
 pub fn encode_get_request(
     alloc: Global,
     n: &Numbering,
@@ -51,6 +51,6 @@ pub fn encode_get_request(
     let name = n.field(FieldName::GetRequestName);
     let all = n.field(FieldName::GetRequestAll);
     write_instance(name, all, &r.instance, &mut out)?;
-    write_number(n.field(FieldName::GetRequestAft), r.aft, &mut out)?;
+    write_nonzero_uint(n.field(FieldName::GetRequestAft), r.aft, &mut out)?;
     Ok(out)
 }

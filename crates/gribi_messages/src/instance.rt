@@ -2,7 +2,7 @@ ghost use Rattle.std.specs.Prelude.{◌≡◌, ◌++◌, ◌==◌, [], true, IfO
 ghost use Rattle.std.specs.List.{last_or};
 ghost use Rattle.std.specs.Option.{option_map, option_map_or};
 ghost use Rattle.std.specs.Str.{IsUtf8};
-ghost use Rattle.gribi_messages.specs.Asks.{last_member_at as last_member, instance_ask as ask_said, instance_field};
+ghost use Rattle.gribi_messages.specs.GetAndFlush.{last_member_at as last_member, instance_ask as ask_said, instance_field};
 
 use crate::asks::InstanceAsk;
 use aft_entries::Name;
@@ -22,7 +22,7 @@ pub fn name_of(alloc: Global, bytes: &[u8]) -> Result<Name, AllocError>
 }
 
 // The last member of a oneof, and its last occurrence.
-#[tactic(auto, unfolding(crate::specs::Asks::last_member_at))]
+#[tactic(auto, unfolding(crate::specs::GetAndFlush::last_member_at))]
 fn last_member_at<'a>(among: &[u32], bytes: &'a [u8]) -> Option<(u32, &'a [u8])>
     ensures { option_map (λ m. (m.0, m.1.now)) result ≡ last_member among.now bytes.now }
 {

@@ -5,7 +5,6 @@ mod asks;
 mod decode;
 mod flush;
 mod get;
-mod heard;
 mod instance;
 mod laws;
 mod lists;
@@ -14,24 +13,24 @@ mod read_response;
 mod request;
 mod response;
 mod rows;
+mod scanned;
 mod write_request;
 mod writers;
 
 pub use aft_entries::{Name, Op, RawEntry, RawOperation};
 pub use asks::{FlushAsk, FlushRequest, FlushResponse, GetRequest, InstanceAsk};
 pub use decode::{
-    BareHop, asks_of, bare_hop_in, decode_modify, hear_operation, op_of, operation_heard,
-    operation_of, uint128_of,
+    IndexOnlyHop, decode_modify, header_of, index_only_hop, op_of, operation_of, scan_operation,
+    scanned_operation, uint128_of,
 };
 pub use flush::{decode_flush, decode_flush_response, encode_flush_request, encode_flush_response};
 pub use get::{decode_get, encode_get_request};
-pub use heard::{Heard, hear};
 pub use laws::{
     flush_request_is_read_again, flush_response_is_read_again, get_request_is_read_again,
     get_response_is_read_again, modify_request_is_read_again, modify_response_is_read_again,
 };
 pub use lists::{AftResults, RawOperations};
-pub use pieces::OperationPieces;
+pub use pieces::OperationReader;
 pub use proto_schema::MessageFault;
 pub use read_response::decode_modify_response;
 pub use request::{ModifyRequest, RawParams};
@@ -40,4 +39,5 @@ pub use response::{
     encode_modify_response,
 };
 pub use rows::{GetResponse, RawRow, RawRows, decode_get_response, encode_get_response};
+pub use scanned::{ScannedFields, scan_fields};
 pub use write_request::encode_modify_request;

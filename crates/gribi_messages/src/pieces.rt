@@ -1,5 +1,5 @@
 ghost use Rattle.std.specs.Prelude.{◌≡◌, ◌∷◌, [], MatchOption};
-ghost use Rattle.proto_schema.specs.Words.{repeated_at};
+ghost use Rattle.proto_schema.specs.FieldValues.{repeated_at};
 ghost use Rattle.schema_numbers.specs.Numbers.{field_of};
 ghost use Rattle.schema_numbers.specs.declared.names.FieldName.TheVariants as field_name;
 
@@ -10,27 +10,27 @@ use std::marker::Model;
 
 /// Finds the operations of a request, one after another, and takes no memory. Contracts see the bytes of those to come.
 #[derive(Drop)]
-pub struct OperationPieces<'a> {
+pub struct OperationReader<'a> {
     wanted: u32,
     reader: FieldReader<'a>,
 }
 
-impl<'a> Model for OperationPieces<'a> {
+impl<'a> Model for OperationReader<'a> {
     ghost use Rattle.std.specs.Prelude.{ℕ, List};
     ghost use Rattle.proto_wire.specs.Fields.{fields_from};
-    ghost use Rattle.proto_schema.specs.Words.{pieces};
+    ghost use Rattle.proto_schema.specs.FieldValues.{pieces};
 
     ghost Value = { List (List ℕ) };
 
     ghost view = { λ p. pieces p.wanted (fields_from p.reader.0 p.reader.1).fields };
 }
 
-impl<'a> OperationPieces<'a> {
+impl<'a> OperationReader<'a> {
     /// All operations of a request.
-    pub fn new(n: &Numbering, message: &'a [u8]) -> OperationPieces<'a>
+    pub fn new(n: &Numbering, message: &'a [u8]) -> OperationReader<'a>
         ensures { result ≡ repeated_at (field_of n.now field_name.ModifyRequestOperation) message.now }
     {
-        OperationPieces {
+        OperationReader {
             wanted: n.field(FieldName::ModifyRequestOperation),
             reader: FieldReader::new(message),
         }

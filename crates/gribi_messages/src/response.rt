@@ -5,7 +5,7 @@ ghost use Rattle.gribi_messages.specs.Response.{result_bytes, result_field, para
 
 use crate::lists::AftResults;
 use crate::writers::write_uint128;
-use aft_messages::{number_size, write_head, write_number, write_two};
+use aft_messages::{nonzero_uint_size, write_length_prefix, write_nonzero_uint, write_two_uints};
 use schema_numbers::{FieldName, Numbering};
 use std::alloc::{AllocError, Global};
 
@@ -32,13 +32,13 @@ pub struct ModifyResponse {
 fn result_size(n: &Numbering, r: &AftResult) -> usize
     ensures { result ≡ length (result_bytes n.now r.now) }
 {
-    let id = number_size(n.field(FieldName::AftResultId), r.id);
-    let status = number_size(n.field(FieldName::AftResultStatus), r.status);
-    let timestamp = number_size(
+    let id = nonzero_uint_size(n.field(FieldName::AftResultId), r.id);
+    let status = nonzero_uint_size(n.field(FieldName::AftResultStatus), r.status);
+    let timestamp = nonzero_uint_size(
         n.field(FieldName::AftResultTimestamp),
         r.timestamp.cast_unsigned(),
     );
-    let reason = number_size(n.field(FieldName::AftResultReason), r.reason);
+    let reason = nonzero_uint_size(n.field(FieldName::AftResultReason), r.reason);
     id + status + timestamp + reason
 }
 
@@ -49,14 +49,14 @@ fn write_result_numbers(n: &Numbering, r: &AftResult, out: &mut Vec<u8>) -> Resu
 {
     let before = out.len();
     let timestamp = r.timestamp.cast_unsigned();
-    write_two(
+    write_two_uints(
         n.field(FieldName::AftResultId),
         r.id,
         n.field(FieldName::AftResultStatus),
         r.status,
         out,
     )?;
-    let rest = write_two(
+    let rest = write_two_uints(
         n.field(FieldName::AftResultTimestamp),
         timestamp,
         n.field(FieldName::AftResultReason),
@@ -76,7 +76,7 @@ fn write_result(n: &Numbering, r: &AftResult, out: &mut Vec<u8>) -> Result<(), A
     ensures err { OnErr result (out.new.items ≡ out.old.items) }
 {
     let before = out.len();
-    write_head(
+    write_length_prefix(
         n.field(FieldName::ModifyResponseResult),
         result_size(n, r),
         out,
@@ -110,8 +110,8 @@ fn write_params(n: &Numbering, status: u64, out: &mut Vec<u8>) -> Result<(), All
     let before = out.len();
     let inner = n.field(FieldName::SessionParametersResultStatus);
     let outer = n.field(FieldName::ModifyResponseSessionParamsResult);
-    write_head(outer, number_size(inner, status), out)?;
-    if write_number(inner, status, out).is_err() {
+    write_length_prefix(outer, nonzero_uint_size(inner, status), out)?;
+    if write_nonzero_uint(inner, status, out).is_err() {
         out.truncate(before);
         return Err(AllocError);
     }

@@ -3,20 +3,21 @@ ghost use Rattle.std.specs.List.{flat_map};
 ghost use Rattle.std.specs.Option.{option_map};
 ghost use Rattle.proto_schema.specs.declared.schema.MessageKind.TheVariants as message;
 ghost use Rattle.proto_schema.specs.Legal.{first_fault as fault_of};
-ghost use Rattle.proto_schema.specs.Words.{chosen_at as chosen_member};
-ghost use Rattle.proto_schema.specs.Chosen.{chosen_seen};
+ghost use Rattle.proto_schema.specs.FieldValues.{oneof_at as oneof_member};
+ghost use Rattle.proto_schema.specs.OneofMember.{oneof_member_view};
 ghost use Rattle.aft_messages.specs.Decodes.{Decodes};
 ghost use Rattle.aft_messages.specs.Printing.{raw_of};
-ghost use Rattle.aft_messages.specs.Sent.{IsSent};
-ghost use Rattle.gribi_messages.specs.Rows.{row_members, row_entry as entry_said, row_of as row_said, rows_of as rows_said, get_response, row_member, row_entry_field, row_bytes, row_field, rows_bytes, row_sent, IsRowNamed};
-ghost use Rattle.gribi_messages.specs.Fitting.{IsRow};
+ghost use Rattle.aft_messages.specs.Encodable.{IsEncodable};
+ghost use Rattle.gribi_messages.specs.Rows.{row_members, row_entry as entry_said, row_of as row_said, rows_of as rows_said, get_response, row_member, row_entry_field, row_bytes, row_field, rows_bytes, row_as_read, RowHasKnownInstances};
+ghost use Rattle.gribi_messages.specs.EncodableMessages.{IsEncodableRow};
 
 use aft_entries::{Instances, KeyName, Kind, Name, RawEntry, Row};
 use aft_messages::{
-    enclose, encode_entry, read_entry, read_text, write_number, write_text, write_two,
+    encode_entry, read_entry, read_text, write_length_delimited, write_nonempty_text,
+    write_nonzero_uint, write_two_uints,
 };
 use proto_schema::{
-    Chosen, MessageFault, MessageKind, chosen_at, first_fault, number_at, piece_of, text_at,
+    MessageFault, MessageKind, OneofMember, first_fault, number_at, oneof_at, piece_of, text_at,
 };
 use proto_wire::{FieldReader, Next};
 use schema_numbers::{FieldName, Numbering, ValueName};
@@ -43,8 +44,8 @@ pub struct GetResponse {
 }
 
 // What a member of the oneof of an entry says.
-fn entry_of(alloc: Global, n: &Numbering, member: &Chosen<'_>) -> Result<RawEntry, AllocError>
-    ensures { IfOk result (λ entry. entry ≡ entry_said n.now (chosen_seen member.now)) }
+fn entry_of(alloc: Global, n: &Numbering, member: &OneofMember<'_>) -> Result<RawEntry, AllocError>
+    ensures { IfOk result (λ entry. entry ≡ entry_said n.now (oneof_member_view member.now)) }
 {
     let bytes = member.bytes.as_bytes();
     let number = member.number;
@@ -62,7 +63,7 @@ fn entry_of(alloc: Global, n: &Numbering, member: &Chosen<'_>) -> Result<RawEntr
 }
 
 fn entry_in(alloc: Global, n: &Numbering, bytes: &[u8]) -> Result<Option<RawEntry>, AllocError>
-    ensures { IfOk result (λ entry. entry ≡ option_map (entry_said n.now) (chosen_member (row_members n.now) bytes.now)) }
+    ensures { IfOk result (λ entry. entry ≡ option_map (entry_said n.now) (oneof_member (row_members n.now) bytes.now)) }
 {
     let members = [
         n.field(FieldName::AftEntryIpv4),
@@ -71,7 +72,7 @@ fn entry_in(alloc: Global, n: &Numbering, bytes: &[u8]) -> Result<Option<RawEntr
         n.field(FieldName::AftEntryNextHopGroup),
         n.field(FieldName::AftEntryNextHop),
     ];
-    match chosen_at(alloc, &members, bytes)? {
+    match oneof_at(alloc, &members, bytes)? {
         None => Ok(None),
         Some(member) => Ok(Some(entry_of(alloc, n, &member)?)),
     }
@@ -150,13 +151,13 @@ fn write_entry(
     row: &Row,
     out: &mut Vec<u8>,
 ) -> Result<(), AllocError>
-    requires { IsRowNamed (length i.now) row.now }
+    requires { RowHasKnownInstances (length i.now) row.now }
     ensures bytes { OnOk result (out.new.items ≡ out.old.items ++ row_entry_field n.now i.now row.now) }
-    ensures sent { OnOk result (IsSent (raw_of i.now row.now.entry)) }
+    ensures sent { OnOk result (IsEncodable (raw_of i.now row.now.entry)) }
 {
     let before = out.len();
     encode_entry(alloc, n, i, &row.entry, out)?;
-    enclose(member_number(n, &row.entry.key.name), before, out)
+    write_length_delimited(member_number(n, &row.entry.key.name), before, out)
 }
 
 #[tactic(auto, unfolding(crate::specs::Rows::row_bytes))]
@@ -167,12 +168,12 @@ fn write_row_fields(
     row: &Row,
     out: &mut Vec<u8>,
 ) -> Result<(), AllocError>
-    requires { IsRowNamed (length i.now) row.now }
+    requires { RowHasKnownInstances (length i.now) row.now }
     ensures bytes { OnOk result (out.new.items ≡ out.old.items ++ row_bytes n.now i.now row.now) }
-    ensures row { OnOk result (IsRow i.now row.now) }
+    ensures row { OnOk result (IsEncodableRow i.now row.now) }
 {
     let name = i.name(row.entry.key.instance).as_bytes();
-    write_text(n.field(FieldName::AftEntryNetworkInstance), name, out)?;
+    write_nonempty_text(n.field(FieldName::AftEntryNetworkInstance), name, out)?;
     write_entry(alloc, n, i, row, out)?;
     let programmed = n.value(ValueName::EntryStatusProgrammed);
     let status = if row.installed {
@@ -181,8 +182,8 @@ fn write_row_fields(
         n.value(ValueName::EntryStatusNotProgrammed)
     };
     let rib_number = n.field(FieldName::AftEntryRibStatus);
-    write_number(rib_number, programmed, out)?;
-    write_number(n.field(FieldName::AftEntryFibStatus), status, out)
+    write_nonzero_uint(rib_number, programmed, out)?;
+    write_nonzero_uint(n.field(FieldName::AftEntryFibStatus), status, out)
 }
 
 #[tactic(auto, unfolding(crate::specs::Rows::row_field))]
@@ -193,13 +194,13 @@ fn write_row(
     row: &Row,
     out: &mut Vec<u8>,
 ) -> Result<(), AllocError>
-    requires { IsRowNamed (length i.now) row.now }
+    requires { RowHasKnownInstances (length i.now) row.now }
     ensures bytes { OnOk result (out.new.items ≡ out.old.items ++ row_field n.now i.now row.now) }
-    ensures row { OnOk result (IsRow i.now row.now) }
+    ensures row { OnOk result (IsEncodableRow i.now row.now) }
 {
     let before = out.len();
     write_row_fields(alloc, n, i, row, out)?;
-    enclose(n.field(FieldName::GetResponseEntry), before, out)
+    write_length_delimited(n.field(FieldName::GetResponseEntry), before, out)
 }
 
 fn write_rows(
@@ -209,9 +210,9 @@ fn write_rows(
     rows: &[Row],
     out: &mut Vec<u8>,
 ) -> Result<(), AllocError>
-    requires { All (IsRowNamed (length i.now)) rows.now }
+    requires { All (RowHasKnownInstances (length i.now)) rows.now }
     ensures bytes { OnOk result (out.new.items ≡ out.old.items ++ flat_map (row_field n.now i.now) rows.now) }
-    ensures rows { OnOk result (All (IsRow i.now) rows.now) }
+    ensures rows { OnOk result (All (IsEncodableRow i.now) rows.now) }
 {
     for row in rows {
         write_row(alloc, n, i, row, out)?;
@@ -229,9 +230,9 @@ pub fn encode_get_response(
     i: &Instances,
     rows: &[Row],
 ) -> Result<Vec<u8>, AllocError>
-    requires { All (IsRowNamed (length i.now)) rows.now }
+    requires { All (RowHasKnownInstances (length i.now)) rows.now }
     ensures bytes { IfOk result (λ bytes. bytes.items ≡ rows_bytes n.now i.now rows.now) }
-    ensures again { IfOk result (λ bytes. (fault_of n.now message.GetResponse bytes.items ≡ None) × (get_response n.now bytes.items ≡ record { rows = map (row_sent n.now i.now) rows.now })) }
+    ensures again { IfOk result (λ bytes. (fault_of n.now message.GetResponse bytes.items ≡ None) × (get_response n.now bytes.items ≡ record { rows = map (row_as_read n.now i.now) rows.now })) }
 {
     let mut out = Vec::new(alloc);
     write_rows(alloc, n, i, rows, &mut out)?;

@@ -1,12 +1,15 @@
 ghost use Rattle.std.specs.Prelude.{◌≡◌, ◌++◌, [], IfOk, OnOk};
 ghost use Rattle.std.specs.List.{flat_map};
 ghost use Rattle.std.specs.Option.{option_map_or};
-ghost use Rattle.gribi_messages.specs.Spelled.{op_number as op_number_said, member_number as member_number_said, entry_field, id_field, operation_bytes, operation_field, params_bytes, request_params_field, request_bytes};
+ghost use Rattle.gribi_messages.specs.RequestEncoding.{op_number as op_number_said, member_number as member_number_said, entry_field, id_field, operation_bytes, operation_field, params_bytes, request_params_field, request_bytes};
 
 use crate::request::{ModifyRequest, RawParams};
 use crate::writers::write_uint128;
 use aft_entries::{Op, RawEntry, RawOperation};
-use aft_messages::{enclose, encode_raw_entry, write_number, write_text, write_two};
+use aft_messages::{
+    encode_raw_entry, write_length_delimited, write_nonempty_text, write_nonzero_uint,
+    write_two_uints,
+};
 use schema_numbers::{FieldName, Numbering, ValueName};
 use std::alloc::{AllocError, Global};
 
@@ -38,13 +41,13 @@ fn member_number(n: &Numbering, entry: &RawEntry) -> u32
 }
 
 // The helpers below leave `out` as it may be after want of memory: their caller drops it.
-#[tactic(auto, unfolding(crate::specs::Spelled::entry_field))]
+#[tactic(auto, unfolding(crate::specs::RequestEncoding::entry_field))]
 fn write_entry(n: &Numbering, entry: &RawEntry, out: &mut Vec<u8>) -> Result<(), AllocError>
     ensures { OnOk result (out.new.items ≡ out.old.items ++ entry_field n.now entry.now) }
 {
     let before = out.len();
     encode_raw_entry(n, entry, out)?;
-    enclose(member_number(n, entry), before, out)
+    write_length_delimited(member_number(n, entry), before, out)
 }
 
 fn write_entry_if(
@@ -74,7 +77,7 @@ fn write_id_if(
     }
 }
 
-#[tactic(auto, unfolding(crate::specs::Spelled::operation_bytes))]
+#[tactic(auto, unfolding(crate::specs::RequestEncoding::operation_bytes))]
 fn write_operation_fields(
     n: &Numbering,
     o: &RawOperation,
@@ -82,10 +85,10 @@ fn write_operation_fields(
 ) -> Result<(), AllocError>
     ensures { OnOk result (out.new.items ≡ out.old.items ++ operation_bytes n.now o.now) }
 {
-    write_number(n.field(FieldName::AftOperationId), o.id, out)?;
+    write_nonzero_uint(n.field(FieldName::AftOperationId), o.id, out)?;
     let name = o.instance.as_str().as_bytes();
-    write_text(n.field(FieldName::AftOperationNetworkInstance), name, out)?;
-    write_number(n.field(FieldName::AftOperationOp), op_number(n, o.op), out)?;
+    write_nonempty_text(n.field(FieldName::AftOperationNetworkInstance), name, out)?;
+    write_nonzero_uint(n.field(FieldName::AftOperationOp), op_number(n, o.op), out)?;
     write_entry_if(n, &o.entry, out)?;
     write_id_if(
         n,
@@ -95,13 +98,13 @@ fn write_operation_fields(
     )
 }
 
-#[tactic(auto, unfolding(crate::specs::Spelled::operation_field))]
+#[tactic(auto, unfolding(crate::specs::RequestEncoding::operation_field))]
 fn write_operation(n: &Numbering, o: &RawOperation, out: &mut Vec<u8>) -> Result<(), AllocError>
     ensures { OnOk result (out.new.items ≡ out.old.items ++ operation_field n.now o.now) }
 {
     let before = out.len();
     write_operation_fields(n, o, out)?;
-    enclose(n.field(FieldName::ModifyRequestOperation), before, out)
+    write_length_delimited(n.field(FieldName::ModifyRequestOperation), before, out)
 }
 
 fn write_operations(
@@ -117,23 +120,23 @@ fn write_operations(
     Ok(())
 }
 
-#[tactic(auto, unfolding(crate::specs::Spelled::params_bytes))]
+#[tactic(auto, unfolding(crate::specs::RequestEncoding::params_bytes))]
 fn write_param_numbers(n: &Numbering, p: RawParams, out: &mut Vec<u8>) -> Result<(), AllocError>
     ensures { OnOk result (out.new.items ≡ out.old.items ++ params_bytes n.now p) }
 {
     let redundancy = n.field(FieldName::SessionParametersRedundancy);
     let persistence = n.field(FieldName::SessionParametersPersistence);
-    write_two(redundancy, p.redundancy, persistence, p.persistence, out)?;
-    write_number(n.field(FieldName::SessionParametersAckType), p.ack, out)
+    write_two_uints(redundancy, p.redundancy, persistence, p.persistence, out)?;
+    write_nonzero_uint(n.field(FieldName::SessionParametersAckType), p.ack, out)
 }
 
-#[tactic(auto, unfolding(crate::specs::Spelled::request_params_field))]
+#[tactic(auto, unfolding(crate::specs::RequestEncoding::request_params_field))]
 fn write_params(n: &Numbering, p: RawParams, out: &mut Vec<u8>) -> Result<(), AllocError>
     ensures { OnOk result (out.new.items ≡ out.old.items ++ request_params_field n.now p) }
 {
     let before = out.len();
     write_param_numbers(n, p, out)?;
-    enclose(n.field(FieldName::ModifyRequestParams), before, out)
+    write_length_delimited(n.field(FieldName::ModifyRequestParams), before, out)
 }
 
 fn write_params_if(
@@ -151,7 +154,7 @@ fn write_params_if(
 
 /// The one spelling of a request of a Modify call, or want of memory. An operation without `op` is written without its
 /// number, and of a MAC or policy entry no bytes are kept.
-#[tactic(auto, unfolding(crate::specs::Spelled::request_bytes))]
+#[tactic(auto, unfolding(crate::specs::RequestEncoding::request_bytes))]
 pub fn encode_modify_request(
     alloc: Global,
     n: &Numbering,

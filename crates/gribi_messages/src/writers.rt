@@ -2,7 +2,7 @@ ghost use Rattle.std.specs.Prelude.{◌≡◌, ◌++◌, OnOk, OnErr};
 ghost use Rattle.proto_wire.specs.Written.{bytes_field};
 ghost use Rattle.gribi_messages.specs.Response.{uint128_bytes};
 
-use aft_messages::{number_size, write_head, write_two};
+use aft_messages::{nonzero_uint_size, write_length_prefix, write_two_uints};
 use schema_numbers::{FieldName, Numbering};
 use std::alloc::AllocError;
 
@@ -22,9 +22,9 @@ pub fn write_uint128(
     let low_number = n.field(FieldName::Uint128Low);
     let high = (id / 0x1_0000_0000_0000_0000) as u64;
     let low = (id % 0x1_0000_0000_0000_0000) as u64;
-    let size = number_size(high_number, high) + number_size(low_number, low);
-    write_head(number, size, out)?;
-    if write_two(high_number, high, low_number, low, out).is_err() {
+    let size = nonzero_uint_size(high_number, high) + nonzero_uint_size(low_number, low);
+    write_length_prefix(number, size, out)?;
+    if write_two_uints(high_number, high, low_number, low, out).is_err() {
         out.truncate(before);
         return Err(AllocError);
     }

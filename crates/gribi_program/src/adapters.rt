@@ -1,7 +1,7 @@
 ghost use Rattle.std.specs.Prelude.{◌≡◌, ◌≤◌, ◌<◌, length, take};
 ghost use Rattle.std.specs.Io.KnownBytes.{Appends};
 ghost use Rattle.rig_io.specs.Fault.{HasCause, StaysUnless};
-ghost use Rattle.rig_io.specs.Stream.{IsTook, Takes, Grows, IsPlaced, Places};
+ghost use Rattle.rig_io.specs.Stream.{TookInBounds, Takes, TakenGrows, PlacedInBounds, Places};
 ghost use Rattle.gribi_program.specs.Adapters.{Reads, Writes};
 
 use rig_io::{Placed, Sink, Source, Took};
@@ -9,21 +9,21 @@ use std::io::{Read, Write};
 
 /// A source over any reader. It tells no bytes, and counts each read that fails.
 #[derive(Drop)]
-pub struct Reading<R> {
+pub struct ReaderSource<R> {
     inner: R,
     faults: u64,
 }
 
-impl<R: Read + Drop> Reading<R> {
+impl<R: Read + Drop> ReaderSource<R> {
     /// A source over a reader that has not failed.
     pub fn new(inner: R) -> Self
         ensures { (result.inner ≡ inner) × (result.faults ≡ 0) }
     {
-        Reading { inner, faults: 0 }
+        ReaderSource { inner, faults: 0 }
     }
 }
 
-impl<R: Read + Drop> Source for Reading<R> {
+impl<R: Read + Drop> Source for ReaderSource<R> {
     ghost use Rattle.std.specs.Prelude.{None};
 
     ghost taken = { λ _. None };
@@ -34,9 +34,9 @@ impl<R: Read + Drop> Source for Reading<R> {
 
     fn take(&mut self, buffer: &mut [u8]) -> Took
         requires { 0 < length buffer.old }
-        ensures bound { IsTook result (length buffer.new) }
+        ensures bound { TookInBounds result (length buffer.new) }
         ensures bytes { Takes None None result buffer.new }
-        ensures grows { Grows None None result buffer.new }
+        ensures grows { TakenGrows None None result buffer.new }
         ensures cause { HasCause self.old.faults self.new.faults (result ≡ Took.Failed) }
         ensures stays { StaysUnless self.old.faults self.new.faults (result ≡ Took.Failed) }
         ensures reader { Reads (R.remaining self.old.inner) (R.remaining self.new.inner) result buffer.new }
@@ -55,17 +55,17 @@ impl<R: Read + Drop> Source for Reading<R> {
 /// A sink over any writer. It tells no bytes, and counts each write that fails or places nothing.
 /// What is written is flushed at once, so that no failure comes later.
 #[derive(Drop)]
-pub struct Writing<W> {
+pub struct WriterSink<W> {
     inner: W,
     faults: u64,
 }
 
-impl<W: Write + Drop> Writing<W> {
+impl<W: Write + Drop> WriterSink<W> {
     /// A sink over a writer that has not failed.
     pub fn new(inner: W) -> Self
         ensures { (result.inner ≡ inner) × (result.faults ≡ 0) }
     {
-        Writing { inner, faults: 0 }
+        WriterSink { inner, faults: 0 }
     }
 
     // How many bytes were written and flushed, 0 where that failed.
@@ -81,7 +81,7 @@ impl<W: Write + Drop> Writing<W> {
     }
 }
 
-impl<W: Write + Drop> Sink for Writing<W> {
+impl<W: Write + Drop> Sink for WriterSink<W> {
     ghost use Rattle.std.specs.Prelude.{None};
 
     ghost placed = { λ _. None };
@@ -90,7 +90,7 @@ impl<W: Write + Drop> Sink for Writing<W> {
 
     fn put(&mut self, piece: &[u8]) -> Placed
         requires { 0 < length piece.now }
-        ensures bound { IsPlaced result (length piece.now) }
+        ensures bound { PlacedInBounds result (length piece.now) }
         ensures bytes { Places None None result piece.now }
         ensures cause { HasCause self.old.faults self.new.faults (result ≡ Placed.Failed) }
         ensures stays { StaysUnless self.old.faults self.new.faults (result ≡ Placed.Failed) }

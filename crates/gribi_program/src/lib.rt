@@ -2,8 +2,8 @@
 #![tactic(auto)]
 
 mod adapters;
-mod top;
+mod program;
 mod words;
 
-pub use adapters::{Reading, Writing};
-pub use top::gribi_main;
+pub use adapters::{ReaderSource, WriterSink};
+pub use program::gribi_main;

@@ -18,8 +18,8 @@ fn value(text: &str) -> Option<&str>
 }
 
 // The value of `--instances=value`.
-fn joined(word: &str) -> Option<&str>
-    ensures { option_copied result ≡ spec.joined word.now }
+fn joined_value(word: &str) -> Option<&str>
+    ensures { option_copied result ≡ spec.joined_value word.now }
 {
     match word.strip_prefix("--instances=") {
         None => None,
@@ -28,12 +28,12 @@ fn joined(word: &str) -> Option<&str>
 }
 
 // What `--instances` says, if the words are a command.
-fn said(words: &[String]) -> Option<&str>
-    ensures { option_copied result ≡ spec.said (map string_bytes words.now) }
+fn instances_word(words: &[String]) -> Option<&str>
+    ensures { option_copied result ≡ spec.instances_word (map string_bytes words.now) }
 {
     match words {
         [command] if command.as_str() == "apply" => Some("DEFAULT"),
-        [command, word] if command.as_str() == "apply" => joined(word.as_str()),
+        [command, word] if command.as_str() == "apply" => joined_value(word.as_str()),
         [command, word, next] if command.as_str() == "apply" && word.as_str() == "--instances" => {
             value(next.as_str())
         }
@@ -56,7 +56,7 @@ fn parts(alloc: Global, text: &str) -> Result<Vec<String>, AllocError>
 pub fn read_words(alloc: Global, words: &[String]) -> Result<Option<Instances>, AllocError>
     ensures { IfOk result (λ found. found ≡ spec.instances_in (map string_bytes words.now)) }
 {
-    let Some(text) = said(words) else {
+    let Some(text) = instances_word(words) else {
         return Ok(None);
     };
     let names = parts(alloc, text)?;

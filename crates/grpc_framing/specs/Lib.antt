@@ -1,3 +1,3 @@
 pub mod Framing
-pub mod Held
-pub mod Cuts
+pub mod CutterState
+pub mod NextMessage

@@ -37,15 +37,15 @@ pub struct MessageCutter {
 }
 
 impl Model for MessageCutter {
-    ghost use Rattle.grpc_framing.specs.Held.{Held};
+    ghost use Rattle.grpc_framing.specs.CutterState.{CutterState};
 
-    ghost Value = { Held };
+    ghost Value = { CutterState };
 
     ghost view = { λ c. record { limit = c.limit; held = c.held.items; refusal = c.refusal } };
 }
 
 impl MessageCutter {
-    ghost use Rattle.grpc_framing.specs.Cuts.{Cuts, Leads, StaysDead, fed};
+    ghost use Rattle.grpc_framing.specs.NextMessage.{NextMessage, LeavesRest, StaysRefused, fed};
 
     /// A cutter of a stream whose messages have at most `limit` bytes.
     pub fn new(alloc: Global, limit: u32) -> MessageCutter
@@ -71,7 +71,7 @@ impl MessageCutter {
     }
 
     fn cut_front(&mut self) -> Cut
-        ensures { Cuts self.old result self.new }
+        ensures { NextMessage self.old result self.new }
     {
         match self.refusal {
             Some(Refusal::Compressed) => return Cut::Compressed,
@@ -105,9 +105,9 @@ impl MessageCutter {
     /// Gives the next message. After `NeedMore` more can be fed; after a refusal the same refusal is
     /// the answer forever. Nothing but a message is taken from what is held.
     pub fn next(&mut self) -> Cut
-        ensures exact { Cuts self.old result self.new }
-        ensures leads { Leads self.old result self.new }
-        ensures dead { StaysDead self.old result self.new }
+        ensures exact { NextMessage self.old result self.new }
+        ensures leads { LeavesRest self.old result self.new }
+        ensures dead { StaysRefused self.old result self.new }
     {
         self.cut_front()
     }

@@ -11,13 +11,13 @@ use Rattle.base64.specs.GeneralPurpose.{IsBytes}
 use Rattle.percent_encoding.specs.declared.ascii_set.AsciiSet.{AsciiSet}
 use Rattle.percent_encoding.specs.Percent.{percent_decode}
 use Rattle.percent_encoding.proofs.PercentLemmas.{round_trip}
-use Rattle.proto_wire.specs.Fields.{Cut, fields}
+use Rattle.proto_wire.specs.Fields.{ParsedFields, fields}
 use Rattle.schema_numbers.specs.Numbers.{Numbers, field_of}
 use Rattle.schema_numbers.specs.declared.names.FieldName.TheVariants.{ModifyRpcErrorDetailsReason}
 use Rattle.grpc_heads.specs.declared.status.ModifyReason.{ModifyReason}
-use Rattle.proto_wire.specs.Written.{varint, varint_upto, uint_field, bytes_field, Part, Uint, Text, spelled, spots, IsLegal}
-use Rattle.proto_wire.proofs.Again.{fields_from-spelled}
-use Rattle.proto_schema.specs.Words.{pieces, numbers, number_at, last_number_at, text_at}
+use Rattle.proto_wire.specs.Written.{varint, varint_upto, uint_field, bytes_field, WrittenField, Uint, Text, encoded_fields, field_spans, IsLegal}
+use Rattle.proto_wire.proofs.Again.{fields_from-encoded_fields}
+use Rattle.proto_schema.specs.FieldValues.{pieces, numbers, number_at, last_number_at, text_at}
 use Rattle.grpc_heads.specs.Trailers.{code_of, only, reason_in, reason_in_any, reason_in_status, reason_numbered}
 use Rattle.grpc_heads.specs.Written.{digits, escaped, uint_or_none, bytes_or_none, type_url}
 use Rattle.grpc_heads.proofs.Escapes.{escapes}
@@ -136,18 +136,18 @@ field_length number (b ∷ value) =
 
 -- ---- the details
 
-abbrev pub uint_part : ℕ → ℕ → Bool → List Part
+abbrev pub uint_part : ℕ → ℕ → Bool → List WrittenField
 uint_part number value true = []
 uint_part number value false = Uint number value ∷ []
 
-abbrev pub text_part : ℕ → List ℕ → List Part
+abbrev pub text_part : ℕ → List ℕ → List WrittenField
 text_part number [] = []
 text_part number (b ∷ bytes) = Text number (b ∷ bytes) ∷ []
 
-abbrev status_parts : ℕ → List ℕ → List ℕ → Bool → List Part
+abbrev status_parts : ℕ → List ℕ → List ℕ → Bool → List WrittenField
 status_parts code message any is_zero = uint_part 1 code is_zero ++ (text_part 2 message ++ Text 3 any ∷ [])
 
-status_spelled : (code : ℕ) (message any : List ℕ) (is_zero : Bool) → (if is_zero then [] else uint_field 1 code) ++ bytes_or_none 2 message ++ bytes_field 3 any ≡ spelled (status_parts code message any is_zero)
+status_spelled : (code : ℕ) (message any : List ℕ) (is_zero : Bool) → (if is_zero then [] else uint_field 1 code) ++ bytes_or_none 2 message ++ bytes_field 3 any ≡ encoded_fields (status_parts code message any is_zero)
 status_spelled code [] any true = sym (append-nil (bytes_field 3 any))
 status_spelled code [] any false =
     append_assoc (uint_field 1 code) [] (bytes_field 3 any) ∙ ap (λ rest. uint_field 1 code ++ rest) (sym (append-nil (bytes_field 3 any)))
@@ -156,32 +156,32 @@ status_spelled code (b ∷ message) any false =
     append_assoc (uint_field 1 code) (bytes_field 2 (b ∷ message)) (bytes_field 3 any)
     ∙ ap (λ rest. uint_field 1 code ++ (bytes_field 2 (b ∷ message) ++ rest)) (sym (append-nil (bytes_field 3 any)))
 
-uint_legal : (number value : ℕ) (is_zero : Bool) (rest : List Part) → 1 ≤ number → number < 2 ^ 29 → value < 2 ^ 64 → All IsLegal rest → All IsLegal (uint_part number value is_zero ++ rest)
+uint_legal : (number value : ℕ) (is_zero : Bool) (rest : List WrittenField) → 1 ≤ number → number < 2 ^ 29 → value < 2 ^ 64 → All IsLegal rest → All IsLegal (uint_part number value is_zero ++ rest)
 uint_legal number value true rest low high fits h = h
 uint_legal number value false rest low high fits h = All-cons IsLegal (Uint number value) rest (low, high, fits) h
 
-text_legal : (number : ℕ) (bytes : List ℕ) (rest : List Part) → 1 ≤ number → number < 2 ^ 29 → length bytes < 2 ^ 64 → All IsLegal rest → All IsLegal (text_part number bytes ++ rest)
+text_legal : (number : ℕ) (bytes : List ℕ) (rest : List WrittenField) → 1 ≤ number → number < 2 ^ 29 → length bytes < 2 ^ 64 → All IsLegal rest → All IsLegal (text_part number bytes ++ rest)
 text_legal number [] rest low high fits h = h
 text_legal number (b ∷ bytes) rest low high fits h = All-cons IsLegal (Text number (b ∷ bytes)) rest (low, high, fits) h
 
-abbrev read_as : List Part → Cut
-read_as parts = record { fields = spots 0 parts; fault = None }
+abbrev read_as : List WrittenField → ParsedFields
+read_as parts = record { fields = field_spans 0 parts; fault = None }
 
 status_read : (code : ℕ) (message any : List ℕ) (is_zero : Bool) → code < 2 ^ 64 → length message < 2 ^ 64 → length any < 2 ^ 64 → fields ((if is_zero then [] else uint_field 1 code) ++ bytes_or_none 2 message ++ bytes_field 3 any) ≡ read_as (status_parts code message any is_zero)
 status_read code message any is_zero a b c =
     ap fields (status_spelled code message any is_zero)
-    ∙ fields_from-spelled 0 (status_parts code message any is_zero)
+    ∙ fields_from-encoded_fields 0 (status_parts code message any is_zero)
     (uint_legal 1 code is_zero (text_part 2 message ++ Text 3 any ∷ []) (omega arith) (omega arith) a
     (text_legal 2 message (Text 3 any ∷ []) (omega arith) (omega arith) b
     (All-cons IsLegal (Text 3 any) [] (omega arith, omega arith, c) (All-nil IsLegal))))
 
-one_detail : (code : ℕ) (message any : List ℕ) (is_zero : Bool) → pieces 3 (spots 0 (status_parts code message any is_zero)) ≡ any ∷ []
+one_detail : (code : ℕ) (message any : List ℕ) (is_zero : Bool) → pieces 3 (field_spans 0 (status_parts code message any is_zero)) ≡ any ∷ []
 one_detail code [] any true = refl
 one_detail code [] any false = refl
 one_detail code (b ∷ message) any true = refl
 one_detail code (b ∷ message) any false = refl
 
-abbrev status_cut : Numbers → Cut → Option ModifyReason
+abbrev status_cut : Numbers → ParsedFields → Option ModifyReason
 status_cut n cut = if is_none cut.fault then option_and_then (reason_in_any n) (only (pieces 3 cut.fields)) else None
 
 pub status_again : (n : Numbers) (code : ℕ) (message any : List ℕ) (is_zero : Bool) → code < 2 ^ 64 → length message < 2 ^ 64 → length any < 2 ^ 64 → reason_in_status n ((if is_zero then [] else uint_field 1 code) ++ bytes_or_none 2 message ++ bytes_field 3 any) ≡ reason_in_any n any
@@ -189,18 +189,18 @@ status_again n code message any is_zero a b c =
     ap (status_cut n) (status_read code message any is_zero a b c)
     ∙ ap (λ found. option_and_then (reason_in_any n) (only found)) (one_detail code message any is_zero)
 
-any_spelled : (value : List ℕ) → bytes_field 1 type_url ++ bytes_or_none 2 value ≡ spelled (Text 1 type_url ∷ (text_part 2 value ++ []))
+any_spelled : (value : List ℕ) → bytes_field 1 type_url ++ bytes_or_none 2 value ≡ encoded_fields (Text 1 type_url ∷ (text_part 2 value ++ []))
 any_spelled [] = refl
 any_spelled (b ∷ value) = ap (λ rest. bytes_field 1 type_url ++ rest) (sym (append-nil (bytes_field 2 (b ∷ value))))
 
 any_read : (value : List ℕ) → length value < 2 ^ 64 → fields (bytes_field 1 type_url ++ bytes_or_none 2 value) ≡ read_as (Text 1 type_url ∷ (text_part 2 value ++ []))
 any_read value fits =
     ap fields (any_spelled value)
-    ∙ fields_from-spelled 0 (Text 1 type_url ∷ (text_part 2 value ++ []))
+    ∙ fields_from-encoded_fields 0 (Text 1 type_url ∷ (text_part 2 value ++ []))
     (All-cons IsLegal (Text 1 type_url) (text_part 2 value ++ []) (omega arith, omega arith, omega arith)
     (text_legal 2 value [] (omega arith) (omega arith) fits (All-nil IsLegal)))
 
-abbrev any_cut : Numbers → Cut → Option ModifyReason
+abbrev any_cut : Numbers → ParsedFields → Option ModifyReason
 any_cut n cut =
     if is_none cut.fault && bytes_eq (unwrap_or (last_or None (pieces 1 cut.fields)) []) type_url
     then reason_in n (unwrap_or (last_or None (pieces 2 cut.fields)) []) else None
@@ -213,19 +213,19 @@ pub any_again : (n : Numbers) (value : List ℕ) → length value < 2 ^ 64 → r
 unfolding text_at
 any_again n value fits = ap (any_cut n) (any_read value fits) ∙ any_found n value
 
-uint_spelled : (number value : ℕ) (is_zero : Bool) → (if is_zero then [] else uint_field number value) ≡ spelled (uint_part number value is_zero ++ [])
+uint_spelled : (number value : ℕ) (is_zero : Bool) → (if is_zero then [] else uint_field number value) ≡ encoded_fields (uint_part number value is_zero ++ [])
 uint_spelled number value true = refl
 uint_spelled number value false = sym (append-nil (uint_field number value))
 
 uint_read : (number value : ℕ) (is_zero : Bool) → 1 ≤ number → number < 2 ^ 29 → value < 2 ^ 64 → fields (if is_zero then [] else uint_field number value) ≡ read_as (uint_part number value is_zero ++ [])
 uint_read number value is_zero low high fits =
     ap fields (uint_spelled number value is_zero)
-    ∙ fields_from-spelled 0 (uint_part number value is_zero ++ []) (uint_legal number value is_zero [] low high fits (All-nil IsLegal))
+    ∙ fields_from-encoded_fields 0 (uint_part number value is_zero ++ []) (uint_legal number value is_zero [] low high fits (All-nil IsLegal))
 
 pub itself : (number : ℕ) → (number == number) ≡ true
 itself number = grind (arith, nat_tests)
 
-abbrev number_cut : ℕ → Cut → ℕ
+abbrev number_cut : ℕ → ParsedFields → ℕ
 number_cut number cut = unwrap_or (last_or None (numbers number cut.fields)) 0
 
 number_found : (number value : ℕ) (is_zero : Bool) → (value == 0) ≡ is_zero → number_cut number (read_as (uint_part number value is_zero ++ [])) ≡ value

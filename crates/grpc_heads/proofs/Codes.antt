@@ -8,9 +8,9 @@ use Rattle.std.proofs.lemmas.List.{drop_all}
 use Rattle.std.specs.Str.{bytes_eq}
 use Rattle.schema_numbers.specs.Numbers.{Numbers}
 use Rattle.hpack_tables.specs.declared.field.Field.{Field}
-use Rattle.grpc_heads.specs.Ending.{Ending}
+use Rattle.grpc_heads.specs.GrpcStatus.{GrpcStatus}
 use Rattle.grpc_heads.specs.Heads.{first_value}
-use Rattle.grpc_heads.specs.Trailers.{only, status_codes, code_of, ending_with, ending_coded, ending_by, ending_of}
+use Rattle.grpc_heads.specs.Trailers.{only, status_codes, code_of, status_from_fields, status_coded, status_by_text, status_in_trailers}
 use Rattle.grpc_heads.specs.Written.{digits}
 
 one_more : {X : Type 0} (p q : X → Bool) (y x : X) (ys : List X) (b : Bool) → p y ≡ b → q y ≡ true → (find p ys ≡ Some x → q x ≡ true) → cond b (Some y) (find p ys) ≡ Some x → q x ≡ true
@@ -52,9 +52,9 @@ begins (x ∷ []) = refl
 begins (x ∷ y ∷ ys) = refl
 
 -- the status of trailers, from their code
-pub given : (n : Numbers) (trailers seen : List Field) (value : Option (Bor (List ℕ))) (text : Bor (List ℕ)) (coded : Option ℕ) (code : ℕ) (status : Ending) → option_copied value ≡ first_value (codes "grpc-status") seen → value ≡ Some text → seen ≡ trailers → coded ≡ code_of text.now → coded ≡ Some code → status ≡ ending_with n code seen → Ok status ≡ ending_of n trailers
-unfolding ending_of
+pub given : (n : Numbers) (trailers seen : List Field) (value : Option (Bor (List ℕ))) (text : Bor (List ℕ)) (coded : Option ℕ) (code : ℕ) (status : GrpcStatus) → option_copied value ≡ first_value (codes "grpc-status") seen → value ≡ Some text → seen ≡ trailers → coded ≡ code_of text.now → coded ≡ Some code → status ≡ status_from_fields n code seen → Ok status ≡ status_in_trailers n trailers
+unfolding status_in_trailers
 given n trailers seen value text coded code status first is same by found ends =
     let read : first_value (codes "grpc-status") seen ≡ Some text.now = sym first ∙ ap option_copied is in
-    sym (ap (λ fields. ending_by n fields (first_value (codes "grpc-status") fields)) (sym same)
-    ∙ ap (ending_by n seen) read ∙ ap (ending_coded n seen) (sym by ∙ found) ∙ ap (λ status. Ok status) (sym ends))
+    sym (ap (λ fields. status_by_text n fields (first_value (codes "grpc-status") fields)) (sym same)
+    ∙ ap (status_by_text n seen) read ∙ ap (status_coded n seen) (sym by ∙ found) ∙ ap (λ status. Ok status) (sym ends))

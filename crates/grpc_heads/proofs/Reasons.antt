@@ -17,9 +17,9 @@ use Rattle.schema_numbers.proofs.Ranges.{passes, field_number}
 use Rattle.hpack_tables.specs.declared.field.Field.{Field}
 use Rattle.grpc_heads.specs.declared.status.ModifyReason.{ModifyReason}
 use Rattle.grpc_heads.specs.declared.status.ModifyReason.TheVariants.{UnsupportedParams, ModifyNotAllowed, ParamsDiffer, ElectionIdInAllPrimary}
-use Rattle.grpc_heads.specs.Ending.{Ending}
+use Rattle.grpc_heads.specs.GrpcStatus.{GrpcStatus}
 use Rattle.grpc_heads.specs.Heads.{first_value}
-use Rattle.grpc_heads.specs.Trailers.{reason_in_status, reason_in_text, reason_numbered, message_of, ending_with, ending_coded, ending_of}
+use Rattle.grpc_heads.specs.Trailers.{reason_in_status, reason_in_text, reason_numbered, message_of, status_from_fields, status_coded, status_in_trailers}
 use Rattle.grpc_heads.specs.Written.{field, digits, bytes_or_none, uint_or_none, type_url, reason_name, reason_bytes, any_bytes, details, message_fields, reason_fields, trailer_fields}
 use Rattle.grpc_heads.proofs.Again.{code_again, message_again, append_bytes, all_bytes, test_bytes, uint_or_none_bytes, bytes_or_none_bytes, field_bytes, uint_length, field_length, status_again, any_again, reason_read, itself}
 
@@ -165,17 +165,17 @@ module _ (n : Numbers) (valid : IsValid n) where
   reason_found code [] (Some reason) low small long = text_again code [] reason low small long
   reason_found code (b ∷ message) (Some reason) low small long = text_again code (b ∷ message) reason low small long
 
-  ending : ℕ → List ℕ → Option ModifyReason → Ending
+  ending : ℕ → List ℕ → Option ModifyReason → GrpcStatus
   ending code message reason = record { code = code; message = message; reason = reason }
 
-  with_again : (code : ℕ) (message : List ℕ) (reason : Option ModifyReason) → code ≤ 16 → All (λ byte. byte < 256) message → length message < 2 ^ 64 → ending_with n code (written code message reason) ≡ ending code message reason
+  with_again : (code : ℕ) (message : List ℕ) (reason : Option ModifyReason) → code ≤ 16 → All (λ byte. byte < 256) message → length message < 2 ^ 64 → status_from_fields n code (written code message reason) ≡ ending code message reason
   unfolding ending
   with_again code message reason low small long =
       ap (λ m. ending code m (option_and_then (reason_in_text n) (first_value (codes "grpc-status-details-bin") (written code message reason)))) (message_read code message reason small)
       ∙ ap (λ r. ending code message r) (reason_found code message reason low small long)
 
-  pub trailers_again : (e : Ending) → e.code ≤ 16 → All (λ byte. byte < 256) e.message → length e.message < 2 ^ 64 → ending_of n (trailer_fields n e) ≡ Ok e
-  unfolding ending_of trailer_fields written ending
+  pub trailers_again : (e : GrpcStatus) → e.code ≤ 16 → All (λ byte. byte < 256) e.message → length e.message < 2 ^ 64 → status_in_trailers n (trailer_fields n e) ≡ Ok e
+  unfolding status_in_trailers trailer_fields written ending
   trailers_again e low small long =
-      ap (ending_coded n (written e.code e.message e.reason)) (code_again e.code low)
+      ap (status_coded n (written e.code e.message e.reason)) (code_again e.code low)
       ∙ ap (λ read. Ok read) (with_again e.code e.message e.reason low small long)

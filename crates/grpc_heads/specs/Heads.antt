@@ -48,9 +48,9 @@ method_of (Some path) =
     else None
 
 -- a field that is there has another value than it may have
-abbrev pub is_there_but : (List ℕ → Bool) → Option (List ℕ) → Bool
-is_there_but fits None = false
-is_there_but fits (Some value) = not (fits value)
+abbrev pub is_present_but_not : (List ℕ → Bool) → Option (List ℕ) → Bool
+is_present_but_not fits None = false
+is_present_but_not fits (Some value) = not (fits value)
 
 abbrev pub ends : ℕ → List ℕ → HeadRead
 ends code message = head.Status (record { code = code; message = message; reason = None })
@@ -66,8 +66,8 @@ served (Some method) compressed late =
 abbrev pub call_of : List Field → HeadRead
 call_of fields =
     served (method_of (first_value (codes ":path") fields))
-    (is_there_but (λ value. bytes_eq value (codes "identity")) (first_value (codes "grpc-encoding") fields))
-    (is_there_but is_timeout (first_value (codes "grpc-timeout") fields))
+    (is_present_but_not (λ value. bytes_eq value (codes "identity")) (first_value (codes "grpc-encoding") fields))
+    (is_present_but_not is_timeout (first_value (codes "grpc-timeout") fields))
 
 -- the first refusal, or the method
 unfoldable pub head_of : List Field → HeadRead

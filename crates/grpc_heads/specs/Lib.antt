@@ -1,4 +1,4 @@
-pub mod Ending
+pub mod GrpcStatus
 pub mod Heads
 pub mod Trailers
 pub mod Written

@@ -7,7 +7,7 @@ use Rattle.base64.specs.Engines.{standard_no_pad_indifferent}
 use Rattle.base64.specs.GeneralPurpose.{decode_of}
 use Rattle.percent_encoding.specs.Percent.{percent_decode}
 use Rattle.proto_wire.specs.Fields.{fields}
-use Rattle.proto_schema.specs.Words.{number_at, text_at, pieces}
+use Rattle.proto_schema.specs.FieldValues.{number_at, text_at, pieces}
 use Rattle.schema_numbers.specs.Numbers.{Numbers, field_of, value_of}
 use Rattle.schema_numbers.specs.declared.names.FieldName.TheVariants.{ModifyRpcErrorDetailsReason}
 use Rattle.hpack_tables.specs.declared.field.Field.{Field}
@@ -15,7 +15,7 @@ use Rattle.grpc_heads.specs.declared.status.ModifyReason.{ModifyReason}
 use Rattle.grpc_heads.specs.declared.status.ModifyReason.TheVariants.{UnsupportedParams, ModifyNotAllowed, ParamsDiffer, ElectionIdInAllPrimary}
 use Rattle.grpc_heads.specs.declared.reading.TrailerFault.{TrailerFault}
 use Rattle.grpc_heads.specs.declared.reading.TrailerFault.TheVariants.{NoStatus, BadStatus}
-use Rattle.grpc_heads.specs.Ending.{Ending}
+use Rattle.grpc_heads.specs.GrpcStatus.{GrpcStatus}
 use Rattle.grpc_heads.specs.Heads.{first_value}
 use Rattle.grpc_heads.specs.Written.{digits, reason_name, type_url}
 
@@ -64,21 +64,21 @@ abbrev pub reason_in_text : Numbers → List ℕ → Option ModifyReason
 reason_in_text n text = option_and_then (reason_in_status n) (result_ok (decode_of standard_no_pad_indifferent text))
 
 -- the status with a code, whose message and reason stand in these fields
-abbrev pub ending_with : Numbers → ℕ → List Field → Ending
-ending_with n code trailers = record {
+abbrev pub status_from_fields : Numbers → ℕ → List Field → GrpcStatus
+status_from_fields n code trailers = record {
   code = code;
   message = message_of (first_value (codes "grpc-message") trailers);
   reason = option_and_then (reason_in_text n) (first_value (codes "grpc-status-details-bin") trailers);
 }
 
-abbrev pub ending_coded : Numbers → List Field → Option ℕ → Result Ending TrailerFault
-ending_coded n trailers None = Err BadStatus
-ending_coded n trailers (Some code) = Ok (ending_with n code trailers)
+abbrev pub status_coded : Numbers → List Field → Option ℕ → Result GrpcStatus TrailerFault
+status_coded n trailers None = Err BadStatus
+status_coded n trailers (Some code) = Ok (status_from_fields n code trailers)
 
-abbrev pub ending_by : Numbers → List Field → Option (List ℕ) → Result Ending TrailerFault
-ending_by n trailers None = Err NoStatus
-ending_by n trailers (Some text) = ending_coded n trailers (code_of text)
+abbrev pub status_by_text : Numbers → List Field → Option (List ℕ) → Result GrpcStatus TrailerFault
+status_by_text n trailers None = Err NoStatus
+status_by_text n trailers (Some text) = status_coded n trailers (code_of text)
 
 -- the status, or the fault of the trailers
-unfoldable pub ending_of : Numbers → List Field → Result Ending TrailerFault
-ending_of n trailers = ending_by n trailers (first_value (codes "grpc-status") trailers)
+unfoldable pub status_in_trailers : Numbers → List Field → Result GrpcStatus TrailerFault
+status_in_trailers n trailers = status_by_text n trailers (first_value (codes "grpc-status") trailers)

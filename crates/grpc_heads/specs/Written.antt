@@ -14,7 +14,7 @@ use Rattle.grpc_heads.specs.declared.head.Method.{Method}
 use Rattle.grpc_heads.specs.declared.head.Method.TheVariants.{Modify, Get, Flush}
 use Rattle.grpc_heads.specs.declared.status.ModifyReason.{ModifyReason}
 use Rattle.grpc_heads.specs.declared.status.ModifyReason.TheVariants.{UnsupportedParams, ModifyNotAllowed, ParamsDiffer, ElectionIdInAllPrimary}
-use Rattle.grpc_heads.specs.Ending.{Ending}
+use Rattle.grpc_heads.specs.GrpcStatus.{GrpcStatus}
 
 abbrev pub field : List ℕ → List ℕ → Field
 field name value = record { name = name; value = value }
@@ -92,7 +92,7 @@ reason_fields n code message None = []
 reason_fields n code message (Some reason) =
     field (codes "grpc-status-details-bin") (encode_of standard_no_pad_indifferent (details n code message reason)) ∷ []
 
-unfoldable pub trailer_fields : Numbers → Ending → List Field
+unfoldable pub trailer_fields : Numbers → GrpcStatus → List Field
 trailer_fields n ending =
     field (codes "grpc-status") (digits ending.code)
     ∷ message_fields ending.message ++ reason_fields n ending.code ending.message ending.reason

@@ -130,7 +130,7 @@ fn method_of(path: Option<&[u8]>) -> Option<Method>
 }
 
 fn is_compressed(encoding: Option<&[u8]>) -> bool
-    ensures { result ≡ spec.is_there_but (λ value. bytes_eq value (codes "identity")) (option_copied encoding.entry) }
+    ensures { result ≡ spec.is_present_but_not (λ value. bytes_eq value (codes "identity")) (option_copied encoding.entry) }
 {
     match encoding {
         None => false,
@@ -139,7 +139,7 @@ fn is_compressed(encoding: Option<&[u8]>) -> bool
 }
 
 fn has_bad_timeout(timeout: Option<&[u8]>) -> bool
-    ensures { result ≡ spec.is_there_but spec.is_timeout (option_copied timeout.entry) }
+    ensures { result ≡ spec.is_present_but_not spec.is_timeout (option_copied timeout.entry) }
 {
     match timeout {
         None => false,

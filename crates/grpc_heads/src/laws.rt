@@ -2,9 +2,9 @@
 ghost use Rattle.std.specs.Prelude.{◌≡◌, ◌<◌, ◌≤◌, ◌^◌, All, Ok, length};
 ghost use Rattle.schema_numbers.specs.Numbers.{Numbers};
 ghost use Rattle.schema_numbers.specs.Valid.{IsValid};
-ghost use Rattle.grpc_heads.specs.Ending.{Ending};
+ghost use Rattle.grpc_heads.specs.GrpcStatus.{GrpcStatus};
 ghost use Rattle.grpc_heads.specs.Heads.{head_of};
-ghost use Rattle.grpc_heads.specs.Trailers.{ending_of};
+ghost use Rattle.grpc_heads.specs.Trailers.{status_in_trailers};
 ghost use Rattle.grpc_heads.specs.Written.{request_fields, trailer_fields};
 ghost use Rattle.grpc_heads.specs.declared.head.Method.{Method};
 ghost use Rattle.grpc_heads.specs.declared.head.HeadRead.TheVariants as head;
@@ -16,5 +16,5 @@ pub fn request_heads_are_read_again()
 
 /// Trailers that were written are read again as the same status.
 pub fn trailers_are_read_again()
-    ensures { (n : Numbers) (ending : Ending) → IsValid n → ending.code ≤ 16 → All (λ byte. byte < 256) ending.message → length ending.message < 2 ^ 64 → ending_of n (trailer_fields n ending) ≡ Ok ending }
+    ensures { (n : Numbers) (ending : GrpcStatus) → IsValid n → ending.code ≤ 16 → All (λ byte. byte < 256) ending.message → length ending.message < 2 ^ 64 → status_in_trailers n (trailer_fields n ending) ≡ Ok ending }
 {}

@@ -3,7 +3,7 @@ ghost use Rattle.std.specs.Prelude.{◌≡◌, ◌≤◌, ◌⊎◌, ◌==◌, I
 ghost use Rattle.std.specs.List.{find};
 ghost use Rattle.std.specs.Str.{bytes_eq};
 ghost use Rattle.proto_wire.specs.Fields as wire;
-ghost use Rattle.proto_schema.specs.Words.{pieces};
+ghost use Rattle.proto_schema.specs.FieldValues.{pieces};
 ghost use Rattle.grpc_heads.specs.Trailers as spec;
 ghost use Rattle.percent_encoding.specs.Percent.{percent_decode};
 ghost use Rattle.schema_numbers.specs.Numbers.{value_of};
@@ -38,9 +38,9 @@ pub enum TrailerFault {
 static STATUS_CODES: [u8; 17] = [0, 1, 2, 3, 4, 5, 6, 7, 8, 9, 10, 11, 12, 13, 14, 15, 16];
 
 /// The status that trailers give, or their fault.
-#[tactic(auto, unfolding(crate::specs::Trailers::ending_of))]
+#[tactic(auto, unfolding(crate::specs::Trailers::status_in_trailers))]
 pub fn read_trailers(alloc: Global, n: &Numbering, fields: &Fields) -> Result<Status, TrailerFault>
-    ensures { (result ≡ Err TrailerFault.NoMemory) ⊎ (result ≡ spec.ending_of n.now fields.now) }
+    ensures { (result ≡ Err TrailerFault.NoMemory) ⊎ (result ≡ spec.status_in_trailers n.now fields.now) }
 {
     let fields = fields.as_slice();
     let Some(text) = value(fields, b"grpc-status") else {
@@ -93,7 +93,7 @@ fn status_with(
     fields: &[Field],
 ) -> Result<Status, AllocError>
     requires { code ≤ 16 }
-    ensures { IfOk result (λ status. status ≡ spec.ending_with n.now code fields.now) }
+    ensures { IfOk result (λ status. status ≡ spec.status_from_fields n.now code fields.now) }
 {
     let message = message_of(alloc, value(fields, b"grpc-message"))?;
     let reason = reason_of(alloc, n, value(fields, b"grpc-status-details-bin"))?;

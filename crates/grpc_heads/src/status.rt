@@ -30,9 +30,9 @@ pub struct Status {
 
 impl Model for Status {
     ghost use Rattle.std.specs.Prelude.{◌≤◌};
-    ghost use Rattle.grpc_heads.specs.Ending.{Ending};
+    ghost use Rattle.grpc_heads.specs.GrpcStatus.{GrpcStatus};
 
-    ghost Value = { Ending };
+    ghost Value = { GrpcStatus };
 
     ghost view = { λ s. record { code = s.code; message = s.message; reason = s.reason } };
 

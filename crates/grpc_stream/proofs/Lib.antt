@@ -1,5 +1,5 @@
 pub mod Unspelled
-pub mod Told
+pub mod PeerEvent
 pub mod Idle
 pub mod Spoken
 pub mod Shown

@@ -16,13 +16,13 @@ use Rattle.h2_exchange.specs.Blocks.{Block, block_with, blocks_behind, left_open
 use Rattle.h2_exchange.specs.Exchange.{Step, Sent, sent_of, sent}
 use Rattle.h2_exchange.specs.Frames.{is_data, is_rst_stream}
 use Rattle.h2_exchange.specs.Streams as streams
-use Rattle.h2_exchange.specs.Spelled.{Part, Unclosed, has_begun, parts, part_of, block_part}
-use Rattle.h2_conn.specs.declared.greeter.Greeter.{Greeter}
-use Rattle.h2_conn.specs.Greets as greets
+use Rattle.h2_exchange.specs.StreamParts.{Part, Unclosed, has_begun, parts, part_of, block_part}
+use Rattle.h2_conn.specs.declared.preface_only.PrefaceOnly.{PrefaceOnly}
+use Rattle.h2_conn.specs.PrefaceTrace as preface_trace
 use Rattle.h2_conn.proofs.Greeted.{frames, blockless}
 use Rattle.h2_conn.proofs.Unheard.{all_sent}
 use Rattle.grpc_stream.proofs.Idle.{none_begun}
-use Rattle.grpc_stream.specs.Talk.{Talk, IsSoundTalk, SpellsOn, owed, told_in}
+use Rattle.grpc_stream.specs.CallTrace.{CallTrace, IsSoundCallTrace, CarriesCallOn, queued_on, reported_in}
 
 none_first : {A : Type 0} (o : Option A) (more : List A) → option_to_list o ++ more ≡ [] → o ≡ None
 none_first None more e = refl
@@ -71,7 +71,7 @@ no_messages : messages_of 4294967295 [] ≡ record { messages = []; rest = []; e
 unfolding messages_of messages_upto
 no_messages = refl
 
-none_owed : (t : Talk) (id : ℕ) → t.taken ≡ [] → owed t id ≡ []
+none_owed : (t : CallTrace) (id : ℕ) → t.taken ≡ [] → queued_on t id ≡ []
 none_owed t id e = rw e refl
 
 -- a head that isn't the end stands only where something does
@@ -79,8 +79,8 @@ none_begins : {A : Type 0} (ps : List Part) → ps ≡ [] → has_begun ps ≡ t
 none_begins [] e h = absurd cc
 none_begins (p ∷ ps) e h = absurd cc
 
-silent : (role : Role) (t : Talk) (id : ℕ) → parts id t.course.written (sent t.course.frames) ≡ [] → owed t id ≡ [] → SpellsOn role t id
-silent Server t id none owes = record {
+hidden : (role : Role) (t : CallTrace) (id : ℕ) → parts id t.connection_trace.written (sent t.connection_trace.frames) ≡ [] → queued_on t id ≡ [] → CarriesCallOn role t id
+hidden Server t id none owes = record {
   messages = [];
   rest = [];
   end = None;
@@ -88,7 +88,7 @@ silent Server t id none owes = record {
   front = rw owes refl;
   begins = none_begins _ none;
 }
-silent Client t id none owes = record {
+hidden Client t id none owes = record {
   messages = [];
   rest = [];
   ended = false;
@@ -125,16 +125,16 @@ never_data fs past behind b none same =
     ap (list_any is_data) cut ∙ list_any-append is_data (sent past) (Content b ∷ sent behind) ∙ or_right (list_any is_data (sent past)) true (list_any is_data (sent behind)) refl in
     let clash : true ≡ false = sym some ∙ none in absurd cc
 
-pub sound : (g : Greeter) (t : Talk) → greets.StandsFor g t.course → t.told ≡ [] → t.taken ≡ [] → t.begun ≡ [] → IsSoundTalk t (greets.output_of g)
-sound g t h told taken begun = record {
+pub sound : (g : PrefaceOnly) (t : CallTrace) → preface_trace.StandsFor g t.connection_trace → t.reported ≡ [] → t.taken ≡ [] → t.begun ≡ [] → IsSoundCallTrace t (preface_trace.output_of g)
+sound g t h reported taken begun = record {
   unpadded = λ past behind b split. never_data (frames h.parts.sent.settings h.parts.sent.update h.parts.sent.last) past behind b (no_data h.parts.sent.settings h.parts.sent.update h.parts.sent.last) (sym sent_is ∙ ap sent split);
   begun_first = λ id none. none_owed t id taken;
   calls = λ is. rw begun (sym (ap (λ (x : List Step). streams.begun Client x) (h.parts.frames_are ∙ ap (map Sent) h.parts.sent.frames_are) ∙ none_begun Client h.parts.sent.settings h.parts.sent.update h.parts.sent.last));
-  course = h.sound;
-  told = rw told (told_in t, refl);
+  connection_trace = h.sound;
+  reported = rw reported (reported_in t, refl);
   only = λ past behind f split is. never_reset (frames h.parts.sent.settings h.parts.sent.update h.parts.sent.last) past behind f (none_reset h.parts.sent.settings h.parts.sent.update h.parts.sent.last) (sym sent_is ∙ ap sent split) is;
-  spelled = λ id fits. silent t.course.role t id (ap (λ (fs : List Frame). parts id t.course.written fs) sent_is ∙ no_parts id t.course.written h.parts.sent.settings h.parts.sent.update h.parts.sent.last) (none_owed t id taken);
+  spelled = λ id fits. hidden t.connection_trace.role t id (ap (λ (fs : List Frame). parts id t.connection_trace.written fs) sent_is ∙ no_parts id t.connection_trace.written h.parts.sent.settings h.parts.sent.update h.parts.sent.last) (none_owed t id taken);
 }
   where
-    sent_is : sent t.course.frames ≡ frames h.parts.sent.settings h.parts.sent.update h.parts.sent.last
+    sent_is : sent t.connection_trace.frames ≡ frames h.parts.sent.settings h.parts.sent.update h.parts.sent.last
     sent_is = ap sent h.parts.frames_are ∙ all_sent h.parts.fs ∙ h.parts.sent.frames_are

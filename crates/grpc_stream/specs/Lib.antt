@@ -1,7 +1,7 @@
 pub mod Examples
 pub mod Laws
-pub mod Listening
-pub mod Says
+pub mod PrefaceCallsTrace
+pub mod NextEvent
 pub mod Sends
 pub mod Shown
-pub mod Talk
+pub mod CallTrace

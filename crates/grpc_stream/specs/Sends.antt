@@ -8,8 +8,8 @@ use Rattle.h2_exchange.specs.Exchange.{Step, Sent, sent}
 use Rattle.h2_exchange.specs.Frames.{has_padding}
 use Rattle.h2_exchange.specs.Streams.{is_live, is_open, is_ended_by}
 use Rattle.h2_exchange.specs.Windows.{may_send}
-use Rattle.h2_conn.specs.Course.{is_alive, wrote}
-use Rattle.grpc_stream.specs.Talk.{Talk, changed, is_ended, left_on}
+use Rattle.h2_conn.specs.ConnectionTrace.{is_alive, wrote}
+use Rattle.grpc_stream.specs.CallTrace.{CallTrace, changed, is_ended, unsent_on}
 
 -- heads, data and trailers, on streams that are open; data has no padding, which would count as bytes of messages
 abbrev pub IsCarried : Role → List Step → Frame → Type 0
@@ -25,11 +25,11 @@ AreCarried role x (f ∷ fs) = IsCarried role x f × AreCarried role (x ++ Sent 
 
 -- Frames were sent as far as the windows allow: where bytes of a live stream wait its own window or the connection's has no
 -- room, and where none wait its end, if it has one, is sent. After a refusal nothing is.
-pub record Pumps (t u : Talk) : Type 0 where
+pub record Pumps (t u : CallTrace) : Type 0 where
   pub fs : List Frame
   pub lists : List (List Field)
   pub goes_on : u ≡ changed (wrote fs lists) t
-  pub carried : AreCarried t.course.role t.course.frames fs
-  pub refused : is_alive t.course ≡ false → fs ≡ []
-  pub full : is_alive t.course ≡ true → (id : ℕ) → is_live u.course.role u.course.frames id ≡ true → 0 < left_on u id → may_send u.course.frames id ≡ 0
-  pub ended : is_alive t.course ≡ true → (id : ℕ) → is_live u.course.role u.course.frames id ≡ true → left_on u id ≡ 0 → is_ended u id ≡ true → is_ended_by (sent u.course.frames) id ≡ true
+  pub carried : AreCarried t.connection_trace.role t.connection_trace.frames fs
+  pub refused : is_alive t.connection_trace ≡ false → fs ≡ []
+  pub full : is_alive t.connection_trace ≡ true → (id : ℕ) → is_live u.connection_trace.role u.connection_trace.frames id ≡ true → 0 < unsent_on u id → may_send u.connection_trace.frames id ≡ 0
+  pub ended : is_alive t.connection_trace ≡ true → (id : ℕ) → is_live u.connection_trace.role u.connection_trace.frames id ≡ true → unsent_on u id ≡ 0 → is_ended u id ≡ true → is_ended_by (sent u.connection_trace.frames) id ≡ true

@@ -6,8 +6,8 @@ mod calls;
 mod event;
 pub mod examples;
 pub mod laws;
-mod listener;
+mod preface_only_calls;
 
-pub use calls::Calls;
+pub use calls::CallConnection;
 pub use event::CallEvent;
-pub use listener::Listener;
+pub use preface_only_calls::PrefaceOnlyCalls;

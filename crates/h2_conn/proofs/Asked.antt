@@ -5,32 +5,32 @@ use Rattle.h2_frames.specs.Reader.{Reader}
 use Rattle.h2_frames.specs.Stream.{EndsBetween, AreWhole}
 use Rattle.h2_exchange.specs.declared.limits.H2Limits.{H2Limits}
 use Rattle.h2_exchange.specs.declared.role.Role.{Role}
-use Rattle.h2_exchange.specs.Order.{due_from_peer}
-use Rattle.h2_conn.specs.declared.greeter.Ended.{Ended}
+use Rattle.h2_exchange.specs.Order.{peer_preface}
+use Rattle.h2_conn.specs.declared.preface_only.Ended.{Ended}
 use Rattle.h2_conn.specs.Answers.{IsBetween}
-use Rattle.h2_conn.specs.Course.{Course}
-use Rattle.h2_conn.specs.Greeting.{IsAt}
+use Rattle.h2_conn.specs.ConnectionTrace.{ConnectionTrace}
+use Rattle.h2_conn.specs.PrefaceState.{MatchesTrace}
 use Rattle.h2_exchange.specs.Exchange.{Step, Sent}
 use Rattle.h2_exchange.specs.Streams.{is_live, is_open}
-use Rattle.h2_conn.specs.declared.greeter.Greeter.{Greeter}
-use Rattle.h2_conn.specs.Greets as greets
+use Rattle.h2_conn.specs.declared.preface_only.PrefaceOnly.{PrefaceOnly}
+use Rattle.h2_conn.specs.PrefaceTrace as preface_reading
 use Rattle.h2_conn.proofs.Greeted.{frames, none_live, none_is_open}
 use Rattle.h2_conn.proofs.Opened.{alive_of}
 use Rattle.h2_conn.proofs.Unheard.{none_received}
 
-pub between : (role : Role) (limits : H2Limits) (reader : Reader) (output : List ℕ) (ended : Option Ended) (c : Course) → IsAt role limits reader output ended c → c.refusal ≡ None →
+pub between : (role : Role) (limits : H2Limits) (reader : Reader) (output : List ℕ) (ended : Option Ended) (c : ConnectionTrace) → MatchesTrace role limits reader output ended c → c.refusal ≡ None →
     (answer : Bool) → EndsBetween reader answer → IsTrue answer ↔ IsBetween c
 between role limits reader output ended c h alive answer ends =
     let none = alive_of ended (sym h.refusal_is ∙ alive) in
-    let both = ends (due_from_peer role) c.fed [] (h.reads none) (h.alive none) in (
+    let both = ends (peer_preface role) c.fed [] (h.reads none) (h.alive none) in (
       λ t. record { whole = rw (h.role_is, h.frames_are, none_received h.fs) (both.0 t); closed = rw (h.frames_are, none_received h.fs) refl },
       λ b. both.1 (back b),
     )
   where
-    back : IsBetween c → AreWhole (due_from_peer role) c.fed []
+    back : IsBetween c → AreWhole (peer_preface role) c.fed []
     back b = rw (← h.role_is, ← none_received h.fs, ← h.frames_are) b.whole
 
-module _ (g : Greeter) (c : Course) (h : greets.StandsFor g c) where
+module _ (g : PrefaceOnly) (c : ConnectionTrace) (h : preface_reading.StandsFor g c) where
   frames_are : c.frames ≡ map Sent (frames h.parts.sent.settings h.parts.sent.update h.parts.sent.last)
   frames_are = h.parts.frames_are ∙ ap (map Sent) h.parts.sent.frames_are
 

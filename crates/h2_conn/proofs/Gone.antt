@@ -4,22 +4,22 @@ use Rattle.h2_exchange.specs.Stops.{Stop}
 use Rattle.h2_conn.specs.declared.event.H2Event.{H2Event}
 use Rattle.h2_conn.specs.declared.event.H2Event.TheVariants as says
 use Rattle.h2_conn.specs.Answers as answer
-use Rattle.h2_conn.specs.Course.{Course, Refusal}
+use Rattle.h2_conn.specs.ConnectionTrace.{ConnectionTrace, Refusal}
 use Rattle.h2_exchange.specs.Events.{Event}
 use Rattle.std.specs.Prelude.{List}
 
-goes_fed : (c d : Course) (es : List Event) → answer.Goes c es d → d.fed ≡ c.fed
-goes_fed c d es h = ap (λ (x : Course). x.fed) h.goes_on
+goes_fed : (c d : ConnectionTrace) (es : List Event) → answer.GivesEvents c es d → d.fed ≡ c.fed
+goes_fed c d es h = ap (λ (x : ConnectionTrace). x.fed) h.goes_on
 
-stops_fed : (c d : Course) (why : Refusal) (stop : Stop) → (answer.Again c why d ⊎ answer.Stops c stop d) → d.fed ≡ c.fed
-stops_fed c d why stop (inl h) = ap (λ (x : Course). x.fed) h.1
-stops_fed c d why stop (inr h) = ap (λ (x : Course). x.fed) h.ends ∙ goes_fed c h.at _ h.goes
+stops_fed : (c d : ConnectionTrace) (why : Refusal) (stop : Stop) → (answer.RepeatsRefusal c why d ⊎ answer.Stops c stop d) → d.fed ≡ c.fed
+stops_fed c d why stop (inl h) = ap (λ (x : ConnectionTrace). x.fed) h.1
+stops_fed c d why stop (inr h) = ap (λ (x : ConnectionTrace). x.fed) h.ends ∙ goes_fed c h.at _ h.goes
 
-out_fed : (c d : Course) (why : Refusal) → (answer.Again c why d ⊎ answer.RunsOut c d) → d.fed ≡ c.fed
-out_fed c d why (inl h) = ap (λ (x : Course). x.fed) h.1
-out_fed c d why (inr h) = ap (λ (x : Course). x.fed) h.ends
+out_fed : (c d : ConnectionTrace) (why : Refusal) → (answer.RepeatsRefusal c why d ⊎ answer.RunsOutOfMemory c d) → d.fed ≡ c.fed
+out_fed c d why (inl h) = ap (λ (x : ConnectionTrace). x.fed) h.1
+out_fed c d why (inr h) = ap (λ (x : ConnectionTrace). x.fed) h.ends
 
-pub fed_stays : (e : H2Event) (c d : Course) → answer.Answers c e d → d.fed ≡ c.fed
+pub fed_stays : (e : H2Event) (c d : ConnectionTrace) → answer.Answers c e d → d.fed ≡ c.fed
 fed_stays (says.Head id fields last) c d h = goes_fed c d _ h
 fed_stays (says.Piece id bytes) c d h = goes_fed c d _ h
 fed_stays (says.Ended id) c d h = goes_fed c d _ h

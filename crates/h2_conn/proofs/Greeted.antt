@@ -20,7 +20,7 @@ use Rattle.h2_exchange.specs.Sending.{acks_in}
 use Rattle.h2_exchange.specs.Stops.{stop_of, count_steps, ends_call}
 use Rattle.h2_exchange.specs.Streams.{is_begun, is_live, is_open, is_over, is_ended_by}
 use Rattle.h2_exchange.specs.Windows.{granted_on}
-use Rattle.h2_conn.specs.Greeting.{ends_of}
+use Rattle.h2_conn.specs.PrefaceState.{ends_of}
 use Rattle.h2_conn.proofs.Unheard.{none_of_two, calm}
 
 abbrev pub frames : FrameBody → FrameBody → Option FrameBody → List Frame

@@ -14,12 +14,12 @@ use Rattle.h2_exchange.specs.declared.limits.H2Limits.{H2Limits}
 use Rattle.h2_exchange.specs.declared.role.Role.{Role}
 use Rattle.h2_exchange.specs.declared.role.Role.TheVariants.{Client, Server}
 use Rattle.h2_exchange.specs.Exchange.{Step, sent_text}
-use Rattle.h2_exchange.specs.Order.{due_from_peer, due_from_self}
+use Rattle.h2_exchange.specs.Order.{peer_preface, own_preface}
 use Rattle.h2_exchange.specs.Sending.{own_settings, first_text, IsCredited}
-use Rattle.h2_conn.specs.declared.greeter.Ended.{Ended}
-use Rattle.h2_conn.specs.declared.greeter.Ended.TheVariants as was
-use Rattle.h2_conn.specs.Course.{Course, Refusal, is_alive, begun, fed_more, dropped_more, held, wrote}
-use Rattle.h2_conn.specs.Greeting.{IsAt, AreSent, refusal_of}
+use Rattle.h2_conn.specs.declared.preface_only.Ended.{Ended}
+use Rattle.h2_conn.specs.declared.preface_only.Ended.TheVariants as was
+use Rattle.h2_conn.specs.ConnectionTrace.{ConnectionTrace, Refusal, is_alive, begun, fed_more, dropped_more, held, wrote}
+use Rattle.h2_conn.specs.PrefaceState.{MatchesTrace, AreSent, refusal_of}
 use Rattle.h2_conn.specs.Sends.{CarryCredit, IsCredit}
 use Rattle.h2_conn.proofs.Answered.{credited}
 use Rattle.h2_conn.proofs.Greeted.{frames}
@@ -36,8 +36,8 @@ body payload fits = record { flags = 0; stream = 0; payload = payload; stream_in
 update_fits : (n : ℕ) → length (to_be_bytes w32 n) ≤ 16384
 update_fits n = let e : length (to_be_bytes w32 n) ≡ 4 = refl in omega (arith, e)
 
-pub opens : (role : Role) (limits : H2Limits) (reader : Reader) (output : List ℕ) → Stands (due_from_peer role) reader [] [] → reader.refusal ≡ None → output ≡ due_from_self role ++ first_text role limits →
-    (first : List Frame) × (flat_map frame_text first ≡ first_text role limits) × IsAt role limits reader output None (begun role limits first)
+pub opens : (role : Role) (limits : H2Limits) (reader : Reader) (output : List ℕ) → Stands (peer_preface role) reader [] [] → reader.refusal ≡ None → output ≡ own_preface role ++ first_text role limits →
+    (first : List Frame) × (flat_map frame_text first ≡ first_text role limits) × MatchesTrace role limits reader output None (begun role limits first)
 opens role limits reader output reads alive out =
     let s = body (own_settings role limits) (settings_fit role limits) in
     let u = body (to_be_bytes w32 (limits.window - 65535)) (update_fits (limits.window - 65535)) in
@@ -62,7 +62,7 @@ opens role limits reader output reads alive out =
           };
         };
         frames_are = refl;
-        text = ap (λ (t : List ℕ). due_from_self role ++ t) text ∙ sym out;
+        text = ap (λ (t : List ℕ). own_preface role ++ t) text ∙ sym out;
         heads_are = refl;
         written_is = refl;
         given_is = refl;
@@ -83,8 +83,8 @@ not_refused None e = refl
 not_refused (Some why) e = absurd cc
 
 module _ (role : Role) (limits : H2Limits) (reader : Reader) (ended : Option Ended) where
-  pub feeds : (new : Reader) (output piece : List ℕ) (c : Course) → ((bytes : List ℕ) → Stands (due_from_peer role) reader bytes [] → Stands (due_from_peer role) new (bytes ++ piece) []) →
-      (reader.refusal ≡ None → new.refusal ≡ None) → IsAt role limits reader output ended c → IsAt role limits new output ended (fed_more piece c)
+  pub feeds : (new : Reader) (output piece : List ℕ) (c : ConnectionTrace) → ((bytes : List ℕ) → Stands (peer_preface role) reader bytes [] → Stands (peer_preface role) new (bytes ++ piece) []) →
+      (reader.refusal ≡ None → new.refusal ≡ None) → MatchesTrace role limits reader output ended c → MatchesTrace role limits new output ended (fed_more piece c)
   feeds new output piece c carries stays h = record {
     role_is = h.role_is;
     limits_are = h.limits_are;
@@ -100,7 +100,7 @@ module _ (role : Role) (limits : H2Limits) (reader : Reader) (ended : Option End
     refusal_is = h.refusal_is;
   }
 
-  pub drops : (items : List ℕ) (start n : ℕ) (c : Course) → IsAt role limits reader (drop start items) ended c → IsAt role limits reader (drop (start + n) items) ended (dropped_more (take n (drop start items)) c)
+  pub drops : (items : List ℕ) (start n : ℕ) (c : ConnectionTrace) → MatchesTrace role limits reader (drop start items) ended c → MatchesTrace role limits reader (drop (start + n) items) ended (dropped_more (take n (drop start items)) c)
   drops items start n c h = record {
     role_is = h.role_is;
     limits_are = h.limits_are;
@@ -118,7 +118,7 @@ module _ (role : Role) (limits : H2Limits) (reader : Reader) (ended : Option End
     refusal_is = h.refusal_is;
   }
 
-  pub holds : (output : List ℕ) (hold : Bool) (c : Course) → IsAt role limits reader output ended c → IsAt role limits reader output ended (held hold (wrote [] [] c))
+  pub holds : (output : List ℕ) (hold : Bool) (c : ConnectionTrace) → MatchesTrace role limits reader output ended c → MatchesTrace role limits reader output ended (held hold (wrote [] [] c))
   holds output hold c h = record {
     role_is = h.role_is;
     limits_are = h.limits_are;
@@ -127,18 +127,18 @@ module _ (role : Role) (limits : H2Limits) (reader : Reader) (ended : Option End
     fs = h.fs;
     sent = h.sent;
     frames_are = append-nil c.frames ∙ h.frames_are;
-    text = ap (λ (x : List Step). due_from_self role ++ sent_text x) (append-nil c.frames) ∙ h.text;
+    text = ap (λ (x : List Step). own_preface role ++ sent_text x) (append-nil c.frames) ∙ h.text;
     heads_are = h.heads_are;
     written_is = append-nil c.written ∙ h.written_is;
     given_is = h.given_is;
     refusal_is = h.refusal_is;
   }
 
-  owes_none : (output : List ℕ) (c : Course) → IsAt role limits reader output ended c → is_alive c ≡ true → IsCredited c.role c.limits (c.frames ++ [])
+  owes_none : (output : List ℕ) (c : ConnectionTrace) → MatchesTrace role limits reader output ended c → is_alive c ≡ true → IsCredited c.role c.limits (c.frames ++ [])
   owes_none output c h alive =
       let none = alive_of ended (sym h.refusal_is ∙ not_refused c.refusal alive) in
       rw (append-nil c.frames, h.role_is, h.limits_are, h.frames_are) (credited role limits h.fs (subst (λ (x : Option Ended). AreSent role limits x h.fs) none h.sent))
 
-  pub credits : (output : List ℕ) (hold : Bool) (c : Course) → IsAt role limits reader output ended c → CarryCredit hold c []
+  pub credits : (output : List ℕ) (hold : Bool) (c : ConnectionTrace) → MatchesTrace role limits reader output ended c → CarryCredit hold c []
   credits output true c h = refl
   credits output false c h = (All-nil (IsCredit c), λ e. refl, λ dead. refl, λ alive. owes_none output c h alive)

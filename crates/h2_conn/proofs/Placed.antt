@@ -10,7 +10,7 @@ use Rattle.h2_exchange.specs.Exchange.{Step, Received, Sent, sent}
 use Rattle.h2_exchange.specs.Frames.{is_goaway}
 use Rattle.h2_exchange.specs.Outgoing.{HasPlace}
 use Rattle.h2_exchange.specs.Rules.{breaks_block_on}
-use Rattle.h2_conn.specs.Course.{ArePlaced}
+use Rattle.h2_conn.specs.ConnectionTrace.{ArePlaced}
 use Rattle.h2_conn.proofs.Greeted.{BeginNone, blockless, frames}
 use Rattle.h2_conn.proofs.Unheard.{all_sent}
 

@@ -10,9 +10,9 @@ use Rattle.h2_frames.specs.Layout.{body_of, size_of, said_length, BeginsWithFram
 use Rattle.h2_frames.specs.declared.reader.FrameNext.{FrameNext}
 use Rattle.h2_frames.specs.declared.reader.FrameNext.TheVariants as says
 use Rattle.h2_frames.specs.Reader.{Reader}
-use Rattle.h2_frames.specs.Stream.{Answers, CarriesNext, Follows, HasAnother, Stands, StandsAlive, StandsDead, TakesFrame, fed}
-use Rattle.h2_conn.specs.declared.greeter.greets.Read.{Read}
-use Rattle.h2_conn.specs.Reads.{Reads, kind_of_next}
+use Rattle.h2_frames.specs.Stream.{Answers, CarriesNext, MatchesPreface, HasAnother, Stands, StandsAlive, StandsDead, TakesFrame, fed}
+use Rattle.h2_conn.specs.declared.preface_only.preface_reading.ReadOutcome.{ReadOutcome}
+use Rattle.h2_conn.specs.Reads.{Reads, read_outcome_of}
 
 -- ---- a frame that was given stood whole in front
 
@@ -31,23 +31,23 @@ begins bytes rest f h =
 stands_alive : (due : List ℕ) (r : Reader) (bytes : List ℕ) → r.refusal ≡ None → Stands due r bytes [] → StandsAlive due r bytes []
 stands_alive due r bytes alive s = subst (λ (o : Option Refusal). MatchOption o (StandsAlive due r bytes []) (λ why. StandsDead why due bytes [])) alive s
 
-another : (r : Reader) (due bytes : List ℕ) → StandsAlive due r bytes [] → Follows r.awaited r.held → BeginsWithFrame (drop (length r.awaited) r.held) → HasAnother due bytes []
+another : (r : Reader) (due bytes : List ℕ) → StandsAlive due r bytes [] → MatchesPreface r.awaited r.held → BeginsWithFrame (drop (length r.awaited) r.held) → HasAnother due bytes []
 another r due bytes a follows more = (
   drop (length due) bytes,
-  subst (λ (x : List ℕ). Follows x bytes) a.0 (subst (λ (x : List ℕ). Follows r.awaited x) a.1 follows),
+  subst (λ (x : List ℕ). MatchesPreface x bytes) a.0 (subst (λ (x : List ℕ). MatchesPreface r.awaited x) a.1 follows),
   refl,
   subst (λ (x : List ℕ). BeginsWithFrame (drop (length x) bytes)) a.0 (subst (λ (x : List ℕ). BeginsWithFrame (drop (length r.awaited) x)) a.1 more),
 )
 
 -- ---- its answers
 
-reads_as : (old new : Reader) (next : FrameNext) → Answers old next new → CarriesNext old next new → Reads old (kind_of_next next) new
+reads_as : (old new : Reader) (next : FrameNext) → Answers old next new → CarriesNext old next new → Reads old (read_outcome_of next) new
 reads_as old new says.NeedMore w h = (ap (λ (r : Reader). r.refusal) w.same ∙ w.alive, λ due fed s. h due fed [] s)
 reads_as old new (says.Refused why place) w h = λ due fed s. (h due fed [] s).1
 reads_as old new (says.Frame f) w h = λ due fed s. another old due fed (stands_alive due old fed w.alive s) w.follows (begins _ _ f w.takes)
 reads_as old new says.NoMemory w h = λ due fed s. (h due fed [] s).1
 
-pub reads_by : (old new : Reader) (next : FrameNext) (read : Read) → Answers old next new → CarriesNext old next new → read ≡ kind_of_next next → Reads old read new
+pub reads_by : (old new : Reader) (next : FrameNext) (read : ReadOutcome) → Answers old next new → CarriesNext old next new → read ≡ read_outcome_of next → Reads old read new
 reads_by old new next read w h e = rw e (reads_as old new next w h)
 
 kept : (b : Bool) (r s : Reader) → r.refusal ≡ s.refusal → (if b then r else s).refusal ≡ r.refusal

@@ -6,10 +6,10 @@ use Rattle.hpack_tables.specs.Writing.{fresh}
 use Rattle.h2_exchange.specs.declared.limits.H2Limits.{H2Limits}
 use Rattle.h2_exchange.specs.declared.role.Role.{Role}
 use Rattle.h2_exchange.specs.Compression.{IsWritable}
-use Rattle.h2_conn.specs.declared.greeter.Ended.{Ended}
-use Rattle.h2_conn.specs.declared.greeter.Ended.TheVariants as was
-use Rattle.h2_conn.specs.Course.{Course, IsSound, style_of, events_in}
-use Rattle.h2_conn.specs.Greeting.{IsAt, AreSent, refusal_of}
+use Rattle.h2_conn.specs.declared.preface_only.Ended.{Ended}
+use Rattle.h2_conn.specs.declared.preface_only.Ended.TheVariants as was
+use Rattle.h2_conn.specs.ConnectionTrace.{ConnectionTrace, IsSound, style_of, events_in}
+use Rattle.h2_conn.specs.PrefaceState.{MatchesTrace, AreSent, refusal_of}
 use Rattle.h2_conn.proofs.Answered.{credited}
 use Rattle.h2_conn.proofs.Unheard.{none_received, all_sent, no_data, no_received}
 use Rattle.h2_conn.proofs.Greeted.{no_blocks, none_written, no_acks, no_data_in}
@@ -20,7 +20,7 @@ alive_of None e = refl
 alive_of (Some (was.Broken why place)) e = absurd cc
 alive_of (Some was.NoMemory) e = absurd cc
 
-pub sound : (role : Role) (limits : H2Limits) (reader : Reader) (output : List ℕ) (ended : Option Ended) (c : Course) → IsAt role limits reader output ended c → IsSound c output
+pub sound : (role : Role) (limits : H2Limits) (reader : Reader) (output : List ℕ) (ended : Option Ended) (c : ConnectionTrace) → MatchesTrace role limits reader output ended c → IsSound c output
 sound role limits reader output ended c h = record {
   front = rw (h.frames_are, none_received h.fs) tt;
   within = rw (h.frames_are, none_received h.fs) (λ (p : 0 < 0). omega (arith, p));

@@ -15,7 +15,7 @@ use Rattle.h2_exchange.specs.Content.{Outcome}
 use Rattle.h2_exchange.specs.Events.{events_of, all_events}
 use Rattle.h2_exchange.specs.Exchange.{Step, Received, Sent, received, sent, collect, front_before}
 use Rattle.h2_exchange.specs.Frames.{is_data}
-use Rattle.h2_exchange.specs.Stops.{Stop, Calm, stop_at, going, events}
+use Rattle.h2_exchange.specs.Stops.{Stop, Calm, stop_at, before_stop, events}
 use Rattle.h2_exchange.specs.Streams.{highest}
 
 pub none_received : (fs : List Frame) → received (map Sent fs) ≡ []
@@ -44,7 +44,7 @@ module _ (role : Role) (limits : H2Limits) (heads : List Outcome) where
   by_side Client x e = refl
   by_side Server x e = e
 
-  pub none_begun_by_peer : (side : Role) (fs : List Frame) → last_begun side (going role limits heads (map Sent fs)) ≡ 0
+  pub none_begun_by_peer : (side : Role) (fs : List Frame) → last_begun side (before_stop role limits heads (map Sent fs)) ≡ 0
   none_begun_by_peer side fs =
       let p = sent_front [] fs in
       by_side side _ (ap (λ (x : List Step). highest (received x)) p.1 ∙ ap highest (none_received p.0))

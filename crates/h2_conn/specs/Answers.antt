@@ -14,12 +14,12 @@ use Rattle.h2_exchange.specs.Events.{Event}
 use Rattle.h2_exchange.specs.Events as event
 use Rattle.h2_exchange.specs.Exchange.{Step, Received, Sent, received, sent}
 use Rattle.h2_exchange.specs.Frames.{stream_of, counted}
-use Rattle.h2_exchange.specs.Order.{AreFrames, due_from_peer}
+use Rattle.h2_exchange.specs.Order.{AreFrames, peer_preface}
 use Rattle.h2_exchange.specs.Sending.{ack_for, acks_for, acks_in, credit_text, reset_text, goaway_text, IsCredited}
-use Rattle.h2_exchange.specs.Stops.{Stop, Error, Calm, going, stop_of, IsBroken}
+use Rattle.h2_exchange.specs.Stops.{Stop, Error, Calm, before_stop, stop_of, IsBroken}
 use Rattle.h2_conn.specs.declared.event.H2Event.{H2Event}
 use Rattle.h2_conn.specs.declared.event.H2Event.TheVariants as says
-use Rattle.h2_conn.specs.Course.{Course, Refusal, Stopped, NoMemory, events_in, stop_in}
+use Rattle.h2_conn.specs.ConnectionTrace.{ConnectionTrace, Refusal, Stopped, NoMemory, events_in, stop_in}
 
 -- ---- frames that are received, and what answers them
 
@@ -54,11 +54,11 @@ pub data Receives (role : Role) (limits : H2Limits) (is_holding : Bool) (heads :
 
 -- ---- answers
 
-abbrev pub after : List Step → List Outcome → List Event → Option Refusal → Course → Course
+abbrev pub after : List Step → List Outcome → List Event → Option Refusal → ConnectionTrace → ConnectionTrace
 after more outcomes es refusal c = record c { frames = c.frames ++ more; heads = c.heads ++ outcomes; given = c.given ++ es; refusal = refusal }
 
 -- frames were received and answered, and these events given
-pub record Goes (c : Course) (es : List Event) (d : Course) : Type 0 where
+pub record GivesEvents (c : ConnectionTrace) (es : List Event) (d : ConnectionTrace) : Type 0 where
   pub alive : c.refusal ≡ None
   pub more : List Step
   pub outcomes : List Outcome
@@ -67,22 +67,22 @@ pub record Goes (c : Course) (es : List Event) (d : Course) : Type 0 where
 
 -- Every whole frame was received, and every event given: no rule is broken, no acknowledgement is owed, and no credit
 -- unless it is held.
-pub record Waits (c d : Course) : Type 0 where
-  pub goes : Goes c [] d
+pub record NeedsMore (c d : ConnectionTrace) : Type 0 where
+  pub goes : GivesEvents c [] d
   pub given : d.given ≡ events_in d
   pub unstopped : stop_in d ≡ None
   pub rest : List ℕ
-  pub whole : Frames (due_from_peer d.role) d.fed (received d.frames) rest
+  pub whole : Frames (peer_preface d.role) d.fed (received d.frames) rest
   pub acknowledged : acks_in (sent d.frames) ≡ acks_for (received d.frames)
   pub credited : d.is_holding ≡ false → IsCredited d.role d.limits d.frames
 
 -- a frame broke a rule, or the rest behind all frames does
-abbrev pub Breaks : Course → ErrorCode → ℕ → Type 0
+abbrev pub Breaks : ConnectionTrace → ErrorCode → ℕ → Type 0
 Breaks c why place =
     (rest : List ℕ) × IsBroken c.role c.limits c.heads c.fed c.frames rest why place
-    × (stop_in c ≡ None → AreFrames (due_from_peer c.role) c.fed (received c.frames) rest)
+    × (stop_in c ≡ None → AreFrames (peer_preface c.role) c.fed (received c.frames) rest)
 
-abbrev pub IsCause : Course → Stop → Type 0
+abbrev pub IsCause : ConnectionTrace → Stop → Type 0
 IsCause c (Error why place) = Breaks c why place
 IsCause c (Calm cause) = stop_in c ≡ Some (Calm cause)
 
@@ -92,21 +92,21 @@ code_of (Error why place) = why
 code_of (Calm cause) = code.ENHANCE_YOUR_CALM
 
 -- every event before the cause was given, and a GOAWAY is sent
-pub record Stops (c : Course) (stop : Stop) (d : Course) : Type 0 where
-  pub at : Course
-  pub goes : Goes c [] at
+pub record Stops (c : ConnectionTrace) (stop : Stop) (d : ConnectionTrace) : Type 0 where
+  pub at : ConnectionTrace
+  pub goes : GivesEvents c [] at
   pub given : at.given ≡ events_in at
   pub cause : IsCause at stop
   pub goaway : Frame
-  pub text : frame_text goaway ≡ goaway_text at.role (going at.role at.limits at.heads at.frames) (code_of stop)
+  pub text : frame_text goaway ≡ goaway_text at.role (before_stop at.role at.limits at.heads at.frames) (code_of stop)
   pub ends : d ≡ after (Sent goaway ∷ []) [] [] (Some (Stopped stop)) at
 
 -- a whole frame waits to be taken, or GOAWAY is to be sent
-abbrev pub HasWork : Course → Type 0
-HasWork c = HasAnother (due_from_peer c.role) c.fed (received c.frames) ⊎ ((stop : Stop) × IsCause c stop)
+abbrev pub HasWork : ConnectionTrace → Type 0
+HasWork c = HasAnother (peer_preface c.role) c.fed (received c.frames) ⊎ ((stop : Stop) × IsCause c stop)
 
 -- memory ran out before the next step
-pub record RunsOut (c d : Course) : Type 0 where
+pub record RunsOutOfMemory (c d : ConnectionTrace) : Type 0 where
   pub alive : c.refusal ≡ None
   pub more : List Step
   pub outcomes : List Outcome
@@ -115,20 +115,20 @@ pub record RunsOut (c d : Course) : Type 0 where
   pub ends : d ≡ after more outcomes [] (Some NoMemory) c
 
 -- the refusal that was given before
-abbrev pub Again : Course → Refusal → Course → Type 0
-Again c why d = (c.refusal ≡ Some why) × (d ≡ c)
+abbrev pub RepeatsRefusal : ConnectionTrace → Refusal → ConnectionTrace → Type 0
+RepeatsRefusal c why d = (c.refusal ≡ Some why) × (d ≡ c)
 
 -- What is said next leads from one course to the other. After a refusal it is the same one, and nothing changes.
-abbrev pub Answers : Course → H2Event → Course → Type 0
-Answers c (says.Head id fields last) d = Goes c (event.Head id fields last ∷ []) d
-Answers c (says.Piece id bytes) d = Goes c (event.Data id bytes ∷ []) d
-Answers c (says.Ended id) d = Goes c (event.Ended id ∷ []) d
-Answers c (says.Reset id why) d = Goes c (event.Reset id why ∷ []) d
-Answers c (says.GoneAway id why) d = Goes c (event.GoneAway id why ∷ []) d
-Answers c says.NeedMore d = Waits c d
-Answers c (says.Refused why place) d = Again c (Stopped (Error why place)) d ⊎ Stops c (Error why place) d
-Answers c (says.Calm cause) d = Again c (Stopped (Calm cause)) d ⊎ Stops c (Calm cause) d
-Answers c says.NoMemory d = Again c NoMemory d ⊎ RunsOut c d
+abbrev pub Answers : ConnectionTrace → H2Event → ConnectionTrace → Type 0
+Answers c (says.Head id fields last) d = GivesEvents c (event.Head id fields last ∷ []) d
+Answers c (says.Piece id bytes) d = GivesEvents c (event.Data id bytes ∷ []) d
+Answers c (says.Ended id) d = GivesEvents c (event.Ended id ∷ []) d
+Answers c (says.Reset id why) d = GivesEvents c (event.Reset id why ∷ []) d
+Answers c (says.GoneAway id why) d = GivesEvents c (event.GoneAway id why ∷ []) d
+Answers c says.NeedMore d = NeedsMore c d
+Answers c (says.Refused why place) d = RepeatsRefusal c (Stopped (Error why place)) d ⊎ Stops c (Error why place) d
+Answers c (says.Calm cause) d = RepeatsRefusal c (Stopped (Calm cause)) d ⊎ Stops c (Calm cause) d
+Answers c says.NoMemory d = RepeatsRefusal c NoMemory d ⊎ RunsOutOfMemory c d
 
 -- it is an event, and no refusal or want of bytes
 abbrev pub is_event : H2Event → Bool
@@ -140,8 +140,8 @@ is_event (says.GoneAway id why) = true
 is_event other = false
 
 -- what was fed ends behind the preface or a frame that was received, and outside a header block
-pub record IsBetween (c : Course) : Type 0 where
-  pub whole : AreWhole (due_from_peer c.role) c.fed (received c.frames)
+pub record IsBetween (c : ConnectionTrace) : Type 0 where
+  pub whole : AreWhole (peer_preface c.role) c.fed (received c.frames)
   pub closed : open_block (received c.frames) ≡ None
 
 -- how many bytes of data are given

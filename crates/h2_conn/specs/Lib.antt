@@ -1,8 +1,8 @@
 pub mod Answers
-pub mod Course
+pub mod ConnectionTrace
 pub mod Drains
-pub mod Greeting
-pub mod Greets
+pub mod PrefaceState
+pub mod PrefaceTrace
 pub mod Laws
 pub mod Reads
 pub mod Sends

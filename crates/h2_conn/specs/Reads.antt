@@ -6,24 +6,24 @@ use Rattle.h2_frames.specs.declared.reader.FrameNext.{FrameNext}
 use Rattle.h2_frames.specs.declared.reader.FrameNext.TheVariants as says
 use Rattle.h2_conn.specs.declared.event.H2Event.{H2Event}
 use Rattle.h2_conn.specs.declared.event.H2Event.TheVariants as event
-use Rattle.h2_conn.specs.declared.greeter.Ended.{Ended}
-use Rattle.h2_conn.specs.declared.greeter.Ended.TheVariants as was
-use Rattle.h2_conn.specs.declared.greeter.greets.Read.{Read}
-use Rattle.h2_conn.specs.declared.greeter.greets.Read.TheVariants.{Waits, Broken, Other}
+use Rattle.h2_conn.specs.declared.preface_only.Ended.{Ended}
+use Rattle.h2_conn.specs.declared.preface_only.Ended.TheVariants as was
+use Rattle.h2_conn.specs.declared.preface_only.preface_reading.ReadOutcome.{ReadOutcome}
+use Rattle.h2_conn.specs.declared.preface_only.preface_reading.ReadOutcome.TheVariants.{NeedsMore, Broken, Other}
 
 -- behind no frame the bytes are less than a frame, can't begin one, or begin with one
-abbrev pub Reads : Reader → Read → Reader → Type 0
-Reads old Waits new = (new.refusal ≡ None) × ((due fed : List ℕ) → Stands due old fed [] → Stands due new fed [] × ((rest : List ℕ) × Frames due fed [] rest))
+abbrev pub Reads : Reader → ReadOutcome → Reader → Type 0
+Reads old NeedsMore new = (new.refusal ≡ None) × ((due fed : List ℕ) → Stands due old fed [] → Stands due new fed [] × ((rest : List ℕ) × Frames due fed [] rest))
 Reads old (Broken why place) new = (due fed : List ℕ) → Stands due old fed [] → IsBroken due fed [] why place
 Reads old Other new = (due fed : List ℕ) → Stands due old fed [] → HasAnother due fed []
 
-abbrev pub kind_of_next : FrameNext → Read
-kind_of_next says.NeedMore = Waits
-kind_of_next (says.Refused why place) = Broken why place
-kind_of_next (says.Frame f) = Other
-kind_of_next says.NoMemory = Other
+abbrev pub read_outcome_of : FrameNext → ReadOutcome
+read_outcome_of says.NeedMore = NeedsMore
+read_outcome_of (says.Refused why place) = Broken why place
+read_outcome_of (says.Frame f) = Other
+read_outcome_of says.NoMemory = Other
 
 -- what a greeter says that has refused
-abbrev pub told_of : Ended → H2Event
-told_of (was.Broken why place) = event.Refused why place
-told_of was.NoMemory = event.NoMemory
+abbrev pub event_of_refusal : Ended → H2Event
+event_of_refusal (was.Broken why place) = event.Refused why place
+event_of_refusal was.NoMemory = event.NoMemory

@@ -1,6 +1,6 @@
 -- The frames of heads, data, trailers, resets and credits.
 use Rattle.hpack_tables.specs.declared.field.Field.{Field}
-use Rattle.hpack_tables.specs.Room.{size_of}
+use Rattle.hpack_tables.specs.EntrySizes.{size_of}
 use Rattle.std.specs.Prelude.{sum_by, ◌*◌, ◌/◌, ◌≡◌, ℕ, zero, suc, ◌+◌, ◌<◌, ◌^◌, ◌⊎◌, ◌==◌, ◌&&◌, Bool, true, false, map, replicate, All, List, [], ◌∷◌, ◌++◌, length, take, Result, Ok, Err, if◌then◌else◌}
 use Rattle.h2_frames.specs.declared.code.ErrorCode.{ErrorCode}
 use Rattle.h2_frames.specs.declared.frame.Frame.{Frame}
@@ -13,10 +13,10 @@ use Rattle.h2_exchange.specs.declared.fault.SendFault.TheVariants.{NotOpen, IdsS
 use Rattle.h2_exchange.specs.Exchange.{Sent, sent}
 use Rattle.h2_exchange.specs.Sending.{IsCredited, update_text}
 use Rattle.h2_exchange.specs.Streams.{is_live, highest}
-use Rattle.h2_conn.specs.Course.{Course, is_alive}
+use Rattle.h2_conn.specs.ConnectionTrace.{ConnectionTrace, is_alive}
 
 -- a frame has these flags, this stream and this payload
-pub record Has (b : FrameBody) (flags stream : ℕ) (payload : List ℕ) : Type 0 where
+pub record BodyIs (b : FrameBody) (flags stream : ℕ) (payload : List ℕ) : Type 0 where
   pub flags_are : b.flags ≡ flags
   pub stream_is : b.stream ≡ stream
   pub payload_is : b.payload ≡ payload
@@ -41,22 +41,22 @@ pub record CarryBlock (id : ℕ) (last : Bool) (fs : List Frame) : Type 0 where
 -- one DATA frame, or none where it would bring nothing and end nothing
 abbrev pub CarryBytes : ℕ → Bool → List ℕ → List Frame → Type 0
 CarryBytes id false [] fs = fs ≡ []
-CarryBytes id last payload fs = (b : FrameBody) × (fs ≡ Content b ∷ []) × Has b (last_flag last) id payload
+CarryBytes id last payload fs = (b : FrameBody) × (fs ≡ Content b ∷ []) × BodyIs b (last_flag last) id payload
 
 -- So many bytes of a piece are placed. The side ends where they are the whole last piece.
 abbrev pub CarryPiece : ℕ → List ℕ → Bool → ℕ → List Frame → Type 0
 CarryPiece id piece last n fs = CarryBytes id (last && n == length piece) (take n piece) fs
 
 abbrev pub CarryReset : ℕ → ErrorCode → List Frame → Type 0
-CarryReset id why fs = (b : FrameBody) × (fs ≡ RstStream b ∷ []) × Has b 0 id (to_be_bytes w32 why.0)
+CarryReset id why fs = (b : FrameBody) × (fs ≡ RstStream b ∷ []) × BodyIs b 0 id (to_be_bytes w32 why.0)
 
 -- credit for the connection, or for a stream that is live
-abbrev pub IsCredit : Course → Frame → Type 0
+abbrev pub IsCredit : ConnectionTrace → Frame → Type 0
 IsCredit c f =
     (id n : ℕ) × (frame_text f ≡ update_text id n) × (0 < n) × (n < 2 ^ 31) × ((id ≡ 0) ⊎ (is_live c.role c.frames id ≡ true))
 
 -- What is sent where a hold begins or ends: all that is owed, once it has ended. After a refusal nothing is.
-abbrev pub CarryCredit : Bool → Course → List Frame → Type 0
+abbrev pub CarryCredit : Bool → ConnectionTrace → List Frame → Type 0
 CarryCredit true c fs = fs ≡ []
 CarryCredit false c fs = All (IsCredit c) fs × (c.is_holding ≡ false → fs ≡ []) × (is_alive c ≡ false → fs ≡ []) × (is_alive c ≡ true → IsCredited c.role c.limits (c.frames ++ map Sent fs))
 
@@ -72,7 +72,7 @@ SendsWhere may_send (Err IdsSpent) = ⊥
 SendsWhere may_send (Err NoMemory) = Unit {0}
 
 -- A stream is begun unless the connection has refused or the ids are spent, want of memory apart.
-abbrev pub BeginsWhere : Course → Result ℕ SendFault → Type 0
+abbrev pub BeginsWhere : ConnectionTrace → Result ℕ SendFault → Type 0
 BeginsWhere c (Ok id) = (is_alive c ≡ true) × (highest (sent c.frames) < 2147483647) × (id ≡ next_id (highest (sent c.frames)))
 BeginsWhere c (Err NotOpen) = is_alive c ≡ false
 BeginsWhere c (Err IdsSpent) = (is_alive c ≡ true) × (highest (sent c.frames) ≡ 2147483647)

@@ -1,10 +1,10 @@
 //! A connection whose events are let go.
 ghost use Rattle.std.specs.Prelude.{◌≡◌, IfOk, OnErr};
 ghost use Rattle.h2_conn.specs.Answers.{is_event};
-ghost use Rattle.h2_conn.specs.Course.{Course, Keeps, fed_more};
+ghost use Rattle.h2_conn.specs.ConnectionTrace.{ConnectionTrace, Keeps, fed_more};
 ghost use Rattle.h2_conn.specs.Drains.{Drained};
 
-use crate::connection::Connection;
+use crate::connection::HttpConnection;
 use crate::event::H2Event;
 use bytes::Bytes;
 use std::alloc::AllocError;
@@ -25,29 +25,29 @@ fn has_event(event: &H2Event) -> bool
     }
 }
 
-fn let_go(_event: H2Event) {}
+fn discard(_event: H2Event) {}
 
 /// Lets every event go.
-fn settle<C: Connection>(conn: &mut C) -> H2Event
-    ensures { (c : Course) → C.stands conn.old c → (d : Course) × C.stands conn.new d × Drained c result d }
+fn discard_events<C: HttpConnection>(conn: &mut C) -> H2Event
+    ensures { (c : ConnectionTrace) → C.stands conn.old c → (d : ConnectionTrace) × C.stands conn.new d × Drained c result d }
 {
     'events: loop {
         let event = conn.next_event();
         if !has_event(&event) {
             return event;
         }
-        let_go(event);
+        discard(event);
     }
 }
 
 /// Takes the next piece and lets every event of it go, as behind the end of all calls. Answers what the
 /// connection says behind them: it wants more, or it refuses.
-pub fn drain<C: Connection>(conn: &mut C, piece: Bytes) -> Result<H2Event, AllocError>
-    ensures ok { (c : Course) → C.stands conn.old c → IfOk result (λ last. (d : Course) × C.stands conn.new d × Drained (fed_more piece c) last d) }
+pub fn drain<C: HttpConnection>(conn: &mut C, piece: Bytes) -> Result<H2Event, AllocError>
+    ensures ok { (c : ConnectionTrace) → C.stands conn.old c → IfOk result (λ last. (d : ConnectionTrace) × C.stands conn.new d × Drained (fed_more piece c) last d) }
     ensures err { OnErr result (Keeps (C.stands conn.old) (C.stands conn.new)) }
 {
     match conn.feed(piece) {
-        Ok(()) => Ok(settle(conn)),
+        Ok(()) => Ok(discard_events(conn)),
         Err(error) => Err(error),
     }
 }

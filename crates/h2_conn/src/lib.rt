@@ -4,9 +4,9 @@
 mod connection;
 mod draining;
 mod event;
-mod greeter;
+mod preface_only;
 
-pub use connection::Connection;
+pub use connection::HttpConnection;
 pub use draining::drain;
 pub use event::H2Event;
-pub use greeter::Greeter;
+pub use preface_only::PrefaceOnly;

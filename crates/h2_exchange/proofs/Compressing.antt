@@ -13,7 +13,7 @@ use Rattle.h2_exchange.specs.Content.{ReadOver}
 use Rattle.h2_exchange.specs.Exchange.{Step, Received, Sent, sent}
 use Rattle.h2_exchange.specs.Laws.{WrittenBlocksAreRead}
 use Rattle.h2_exchange.specs.Windows.{settings_in}
-use Rattle.h2_exchange.proofs.Steps.{sent_push, sent_received, blocks_add}
+use Rattle.h2_exchange.proofs.Steps.{sent_push, sent_received, header_blocks_grow}
 
 limited_if : (b : Bool) (size : ℕ) (e : Encoder) (entries : List Field) (max : ℕ) → AreInStep e entries max → AreInStep (if b then limited size e else e) entries max
 limited_if true size e entries max step = stays_in_step e entries max size step
@@ -48,7 +48,7 @@ all_read (Sent f ∷ x) past e last lists opened entries max open_is step good (
     one_read (completed_by opened f) (blocks_behind (left_open opened f) (sent x)) e next lists more entries max step good
     (subst (λ (o : Option Block). IsWritten e (completed_by o f) lists more next) open_is one)
     (λ now size in_step fits. all_read x (past ++ Sent f ∷ []) next last more (left_open opened f) now size
-    (ap open_block (sent_push past f) ∙ blocks_add.open_push (sent past) f ∙ ap (λ (o : Option Block). left_open o f) open_is) in_step fits others)
+    (ap open_block (sent_push past f) ∙ header_blocks_grow.open_push (sent past) f ∙ ap (λ (o : Option Block). left_open o f) open_is) in_step fits others)
 
 pub written_blocks_are_read : WrittenBlocksAreRead
 written_blocks_are_read style x lists last good written =

@@ -6,7 +6,7 @@ use Rattle.h2_frames.specs.Stream.{preface}
 use Rattle.grpc_framing.specs.Framing.{item_at, front_at, messages_upto, messages_of}
 use Rattle.h2_exchange.specs.Samples.{request, response, trailers, head}
 use Rattle.h2_exchange.specs.Outgoing as may
-use Rattle.h2_exchange.specs.Examples.{LoweredWindow, FirstFrames, StreamLife, RefusedStream, StreamNumbers, SecondHead, Stops, RestStops, BlockLimits, CutRequests, bad_preface, QuietFrames, BadHeads, SpelledCalls, SpelledAnswers, FullServer, Responses, Requests, LastStreams, SentFrames, asked}
+use Rattle.h2_exchange.specs.Examples.{LoweredWindow, FirstFrames, StreamLife, RefusedStream, StreamNumbers, SecondHead, Stops, RestStops, BlockLimits, CutRequests, bad_preface, QuietFrames, BadHeads, CallsOfEvents, AnswersOfEvents, FullServer, Responses, Requests, LastStreams, SentFrames, asked}
 
 pub lowered_window : LoweredWindow
 lowered_window = record { ten = refl; below_zero = refl; nothing = refl; five = refl }
@@ -60,11 +60,11 @@ quiet_frames = record { skipped = refl; behind_an_error = refl; reset_by_client 
 pub bad_heads : BadHeads
 bad_heads = record { request_is_sound = refl; response_is_sound = refl; no_method = refl; late = refl; doubled = refl; unknown = refl; upper_case = refl; line_break = refl; upgrade = refl; te = refl; trailers_are_sound = refl; pseudo_trailer = refl }
 
-pub spelled_calls : SpelledCalls
+pub spelled_calls : CallsOfEvents
 unfolding item_at front_at messages_upto messages_of
 spelled_calls = record { two_messages = refl; cut_message = refl; flag = refl; long_message = refl; refused_head = refl; reset = refl; shown_refusal = refl; hidden_refusal = refl }
 
-pub spelled_answers : SpelledAnswers
+pub spelled_answers : AnswersOfEvents
 unfolding item_at front_at messages_upto messages_of
 spelled_answers = record { message = refl; end_alone = refl; flag = refl; no_trailers = refl }
 

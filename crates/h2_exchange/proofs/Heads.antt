@@ -15,15 +15,15 @@ use Rattle.h2_exchange.specs.Content.{Outcome, outcome_for, outcome_at, is_malfo
 use Rattle.h2_exchange.specs.Events.{Event, read_events, block_events, data_events, sound_events, events_by, events_of, all_events, bytes_on, Reset, GoneAway}
 use Rattle.h2_exchange.specs.Exchange.{Step, Received, Sent, received, collect, front_before, first_given}
 use Rattle.h2_exchange.specs.Frames.{stream_of, is_data, is_rst_stream, is_goaway, code_of, last_stream_of, goaway_code_of}
-use Rattle.h2_exchange.specs.Laws.{HeadsStay}
+use Rattle.h2_exchange.specs.Laws.{LaterBlocksChangeNothing}
 use Rattle.h2_exchange.specs.Outcomes.{AreEnough}
 use Rattle.h2_exchange.specs.Rules.{frame_error}
-use Rattle.h2_exchange.specs.Stops.{Stop, Error, Calm, block_stop, content_stop, frame_stop, place_behind, request_bytes, has_request, cuts_request, is_end, ends_call, count_steps, has_many_resets, received_stop, stop_at, going, stop_of, events}
+use Rattle.h2_exchange.specs.Stops.{Stop, Error, Calm, block_stop, content_stop, frame_stop, place_behind, request_bytes, has_request, cuts_request, is_end, ends_call, count_steps, has_many_resets, received_stop, stop_at, before_stop, stop_of, events}
 use Rattle.h2_exchange.specs.StreamErrors.{stream_error_of}
 use Rattle.h2_exchange.specs.Streams.{is_begun, is_live, is_live_at}
 use Rattle.h2_exchange.proofs.Looking.{collect_push, given_more}
 use Rattle.h2_exchange.proofs.Staying.{events_go_on}
-use Rattle.h2_exchange.proofs.Steps.{received_more, blocks_more, blocks_add}
+use Rattle.h2_exchange.proofs.Steps.{received_more, blocks_more, header_blocks_grow}
 
 slice_get_front : {A : Type 0} (xs ys : List A) (i : ℕ) → i < length xs → slice_get (xs ++ ys) i ≡ slice_get xs i
 slice_get_front [] ys i lt = absurd (omega (arith, lt))
@@ -244,21 +244,21 @@ module _ (role : Role) (limits : H2Limits) (heads more : List Outcome) where
       (front_before (stop_at role limits (heads ++ more)) (past ++ s ∷ []) x) (front_before (stop_at role limits heads) (past ++ s ∷ []) x)
       (λ none. looked_same (past ++ s ∷ []) x (events_go_on role limits heads past s clear none).0 l))
 
-  pub going_went : (x : List Step) → Enough role limits heads more x → Went (going role limits heads x)
+  pub going_went : (x : List Step) → Enough role limits heads more x → Went (before_stop role limits heads x)
   going_went x k =
       let r = before_front (stop_at role limits heads) [] x in
-      (enough_front role limits heads more (going role limits heads x) r.0 (subst (Enough role limits heads more) r.1 k), before_clear (stop_at role limits heads) [] x)
+      (enough_front role limits heads more (before_stop role limits heads x) r.0 (subst (Enough role limits heads more) r.1 k), before_clear (stop_at role limits heads) [] x)
 
   heads_kept : (x : List Step) → Enough role limits heads more x → (stop_of role limits (heads ++ more) x ≡ stop_of role limits heads x) × (events role limits (heads ++ more) x ≡ events role limits heads x)
   heads_kept x k =
       let r = looked_same [] x refl k in
-      (r.0, ap (all_events role limits (heads ++ more)) r.1 ∙ all_same role limits heads more (going role limits heads x) (going_went x k))
+      (r.0, ap (all_events role limits (heads ++ more)) r.1 ∙ all_same role limits heads more (before_stop role limits heads x) (going_went x k))
 
 -- ---- each completed block has its outcome
 
 pub completed_fewer : (past behind : List Step) (f : Frame) (b : Block) → completed (received past) f ≡ Some b → length (blocks (received past)) < length (blocks (received (past ++ Received f ∷ behind)))
 completed_fewer past behind f b e =
-    let one : blocks (received past ++ f ∷ []) ≡ blocks (received past) ++ b ∷ [] = blocks_add.blocks_push (received past) f ∙ ap (λ (o : Option Block). blocks (received past) ++ option_to_list o) e in
+    let one : blocks (received past ++ f ∷ []) ≡ blocks (received past) ++ b ∷ [] = header_blocks_grow.blocks_push (received past) f ∙ ap (λ (o : Option Block). blocks (received past) ++ option_to_list o) e in
     let split : received (past ++ Received f ∷ behind) ≡ (received past ++ f ∷ []) ++ received behind = received_more past (Received f ∷ behind) ∙ sym (append_assoc (received past) (f ∷ []) (received behind)) in
     omega (
       arith,
@@ -273,5 +273,5 @@ pub all_enough : (role : Role) (limits : H2Limits) (heads : List Outcome) (x : L
 all_enough role limits heads x le past behind f b e looked done =
     omega (arith, le, completed_fewer past behind f b done, ap (λ (y : List Step). length (blocks (received y))) e)
 
-pub heads_stay : HeadsStay
-heads_stay = record { looked_at = heads_kept; completed = all_enough }
+pub later_blocks_change_nothing : LaterBlocksChangeNothing
+later_blocks_change_nothing = record { looked_at = heads_kept; completed = all_enough }

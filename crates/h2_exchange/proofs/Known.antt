@@ -10,18 +10,18 @@ use Rattle.h2_exchange.specs.declared.role.Role.{Role}
 use Rattle.h2_exchange.specs.Blocks.{Block, blocks}
 use Rattle.h2_exchange.specs.Content.{Outcome}
 use Rattle.h2_exchange.specs.Exchange.{Step, received}
-use Rattle.h2_exchange.specs.Laws.{OneMeaning}
+use Rattle.h2_exchange.specs.Laws.{ExchangeIsDetermined}
 use Rattle.h2_exchange.specs.Outcomes.{ReadFirst, AreEnough}
-use Rattle.h2_exchange.specs.Sending.{IsFront}
+use Rattle.h2_exchange.specs.Sending.{IsPrefix}
 use Rattle.h2_exchange.specs.Stops.{stop_of, events}
-use Rattle.h2_exchange.proofs.Heads.{heads_stay}
+use Rattle.h2_exchange.proofs.Heads.{later_blocks_change_nothing}
 
 abbrev begun : List Field → ℕ → State
 begun entries max = record { entries = entries; max = max; fields = [] }
 
 -- one of two lists goes on with the other
 abbrev OneGoesOn : List Outcome → List Outcome → Type 0
-OneGoesOn h g = IsFront h g ⊎ IsFront g h
+OneGoesOn h g = IsPrefix h g ⊎ IsPrefix g h
 
 goes_on_behind : (o u : Outcome) (h g : List Outcome) → o ≡ u → OneGoesOn h g → OneGoesOn (o ∷ h) (u ∷ g)
 goes_on_behind o u h g e (inl f) = inl (f.0, both e f.1)
@@ -60,12 +60,12 @@ module _ (role : Role) (limits : H2Limits) (x : List Step) where
   abbrev Same : List Outcome → List Outcome → Type 0
   Same h g = (stop_of role limits h x ≡ stop_of role limits g x) × (events role limits h x ≡ events role limits g x)
 
-  by_front : (h g : List Outcome) → AreEnough role limits h x → IsFront h g → Same g h
-  by_front h g k (more, e) = subst (λ (l : List Outcome). Same l h) (sym e) (heads_stay.looked_at role limits h more x k)
+  by_front : (h g : List Outcome) → AreEnough role limits h x → IsPrefix h g → Same g h
+  by_front h g k (more, e) = subst (λ (l : List Outcome). Same l h) (sym e) (later_blocks_change_nothing.looked_at role limits h more x k)
 
   by_either : (h g : List Outcome) → AreEnough role limits h x → AreEnough role limits g x → OneGoesOn h g → Same h g
   by_either h g k l (inl f) = let r = by_front h g k f in (sym r.0, sym r.1)
   by_either h g k l (inr f) = by_front g h l f
 
-pub one_meaning : OneMeaning
-one_meaning role limits heads others x k l = by_either role limits x heads others k.enough l.enough (one_list [] 4096 (blocks (received x)) heads others k.read l.read)
+pub exchange_is_determined : ExchangeIsDetermined
+exchange_is_determined role limits heads others x k l = by_either role limits x heads others k.enough l.enough (one_list [] 4096 (blocks (received x)) heads others k.read l.read)

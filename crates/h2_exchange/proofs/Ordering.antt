@@ -8,7 +8,7 @@ use Rattle.h2_frames.specs.declared.frame.Frame.{Frame}
 use Rattle.h2_frames.specs.Layout.{frame_text, size_of}
 use Rattle.h2_exchange.specs.declared.role.Role.{Role}
 use Rattle.h2_exchange.specs.Exchange.{Step, Received, received_of, sent_of, received, sent, sent_text}
-use Rattle.h2_exchange.specs.Order.{Piece, got_of, put_of, gots, puts, end_of, due_from_peer, due_from_self, InOrder}
+use Rattle.h2_exchange.specs.Order.{Piece, received_bytes_of, sent_bytes_of, received_bytes, sent_bytes, end_of, peer_preface, own_preface, InOrder}
 
 -- ---- lists that are cut in two ways
 
@@ -53,11 +53,11 @@ module _ {A : Type 0} where
 
 -- ---- lengths
 
-gots_push : (ps : List Piece) (p : Piece) → length (gots ps) ≤ length (gots (ps ++ p ∷ []))
-gots_push ps p = omega (arith, ap length (flat_map-append got_of ps (p ∷ [])), length-append (gots ps) (gots (p ∷ [])))
+gots_push : (ps : List Piece) (p : Piece) → length (received_bytes ps) ≤ length (received_bytes (ps ++ p ∷ []))
+gots_push ps p = omega (arith, ap length (flat_map-append received_bytes_of ps (p ∷ [])), length-append (received_bytes ps) (received_bytes (p ∷ [])))
 
-puts_front : (early late : List Piece) → length (puts early) ≤ length (puts (early ++ late))
-puts_front early late = omega (arith, ap length (flat_map-append put_of early late), length-append (puts early) (puts late))
+puts_front : (early late : List Piece) → length (sent_bytes early) ≤ length (sent_bytes (early ++ late))
+puts_front early late = omega (arith, ap length (flat_map-append sent_bytes_of early late), length-append (sent_bytes early) (sent_bytes late))
 
 sent_front : (x more : List Step) → length (sent_text x) ≤ length (sent_text (x ++ more))
 sent_front x more =
@@ -77,18 +77,18 @@ some_received : (before behind : List Step) (f : Frame) (x : List Step) → x �
 some_received before behind f x e = omega (arith, ap (λ (y : List Step). length (received y)) e, ap length (flat_map-append received_of before (Received f ∷ behind)), length-append (received before) (f ∷ received behind))
 
 -- a further call of the link, where all received frames were given before it
-pub order_told : (role : Role) (ps : List Piece) (p : Piece) (x : List Step) → (0 < length (received x) → end_of (due_from_peer role) (received x) ≤ length (gots ps)) → InOrder role ps x → InOrder role (ps ++ p ∷ []) x
+pub order_told : (role : Role) (ps : List Piece) (p : Piece) (x : List Step) → (0 < length (received x) → end_of (peer_preface role) (received x) ≤ length (received_bytes ps)) → InOrder role ps x → InOrder role (ps ++ p ∷ []) x
 order_told role ps p x given order early late before behind f split cell lt =
     elim (cut_push ps p early late split) [
       | inl none ↦
           let whole : early ≡ ps ++ p ∷ [] = sym (append-nil early) ∙ ap (λ (l : List Piece). early ++ l) (sym none) ∙ sym split in
           let some : 0 < length (received x) = some_received before behind f x cell in
-          absurd (omega (arith, lt, given some, gots_push ps p, ap (λ (l : List Piece). length (gots l)) whole, ends_within (due_from_peer role) before behind f, ap (λ (y : List Step). end_of (due_from_peer role) (received y)) cell))
+          absurd (omega (arith, lt, given some, gots_push ps p, ap (λ (l : List Piece). length (received_bytes l)) whole, ends_within (peer_preface role) before behind f, ap (λ (y : List Step). end_of (peer_preface role) (received y)) cell))
       | inr r ↦ order early r.0 before behind f r.1 cell lt
     ]
 
 -- further frames, where all that was placed was sent before them
-pub order_more : (role : Role) (ps : List Piece) (x more : List Step) → length (puts ps) ≤ length (due_from_self role ++ sent_text x) → InOrder role ps x → InOrder role ps (x ++ more)
+pub order_more : (role : Role) (ps : List Piece) (x more : List Step) → length (sent_bytes ps) ≤ length (own_preface role ++ sent_text x) → InOrder role ps x → InOrder role ps (x ++ more)
 order_more role ps x more placed order early late before behind f split cell lt =
     elim (cell_of x more before behind (Received f) cell) [
       | inl r ↦ order early late before r.0 f split r.1 lt
@@ -96,10 +96,10 @@ order_more role ps x more placed order early late before behind f split cell lt 
         arith,
         placed,
         puts_front early late,
-        ap (λ (l : List Piece). length (puts l)) split,
+        ap (λ (l : List Piece). length (sent_bytes l)) split,
         sent_front x t.0,
         ap (λ (y : List Step). length (sent_text y)) t.1,
-        length-append (due_from_self role) (sent_text x),
-        length-append (due_from_self role) (sent_text before),
+        length-append (own_preface role) (sent_text x),
+        length-append (own_preface role) (sent_text before),
       )
     ]

@@ -7,22 +7,22 @@ use Rattle.h2_exchange.specs.declared.limits.H2Limits.{H2Limits}
 use Rattle.h2_exchange.specs.declared.role.Role.{Role}
 use Rattle.h2_exchange.specs.Content.{Outcome}
 use Rattle.h2_exchange.specs.Exchange.{Step, Received, Sent}
-use Rattle.h2_exchange.specs.Laws.{AllAreFront, OnlyTheseAreSent}
+use Rattle.h2_exchange.specs.Laws.{AllIsPrefix, OnlyTheseAreSent}
 use Rattle.h2_exchange.specs.Outgoing.{MaySend, HasPlace, SendsOnly}
-use Rattle.h2_exchange.specs.Spelled.{Message, Finish}
+use Rattle.h2_exchange.specs.StreamParts.{Message, Finish}
 use Rattle.h2_exchange.proofs.Ordering.{cut_push}
 
-pub all_are_front : {E : Type 0} → AllAreFront E
-all_are_front (m ∷ ms) rest end (Message n ∷ items) (same, others) = (same, all_are_front ms rest end items others)
-all_are_front (m ∷ ms) rest end (Finish e ∷ items) h = absurd h
-all_are_front (m ∷ ms) rest end [] h = absurd h
-all_are_front [] rest None [] h = h
-all_are_front [] rest None (Message n ∷ items) h = absurd h
-all_are_front [] rest None (Finish e ∷ items) h = absurd h
-all_are_front [] rest (Some end) [] h = absurd h
-all_are_front [] rest (Some end) (Message n ∷ items) h = absurd h
-all_are_front [] rest (Some end) (Finish e ∷ []) h = h
-all_are_front [] rest (Some end) (Finish e ∷ i ∷ items) h = absurd h
+pub all_is_prefix : {E : Type 0} → AllIsPrefix E
+all_is_prefix (m ∷ ms) rest end (Message n ∷ items) (same, others) = (same, all_is_prefix ms rest end items others)
+all_is_prefix (m ∷ ms) rest end (Finish e ∷ items) h = absurd h
+all_is_prefix (m ∷ ms) rest end [] h = absurd h
+all_is_prefix [] rest None [] h = h
+all_is_prefix [] rest None (Message n ∷ items) h = absurd h
+all_is_prefix [] rest None (Finish e ∷ items) h = absurd h
+all_is_prefix [] rest (Some end) [] h = absurd h
+all_is_prefix [] rest (Some end) (Message n ∷ items) h = absurd h
+all_is_prefix [] rest (Some end) (Finish e ∷ []) h = h
+all_is_prefix [] rest (Some end) (Finish e ∷ i ∷ items) h = absurd h
 
 -- the frame of a step that was sent
 sent_is : (f g : Frame) → Sent f ≡ Sent g → f ≡ g

@@ -8,8 +8,8 @@ use Rattle.h2_exchange.specs.Calls.{shown_of, calls_of, answers_of}
 use Rattle.h2_exchange.specs.Content.{Outcome}
 use Rattle.h2_exchange.specs.Events.{events_of, all_events}
 use Rattle.h2_exchange.specs.Exchange.{Step, collect, front_before, first_given}
-use Rattle.h2_exchange.specs.Laws.{EventsStay, StopsStay, EventsGoOn, CallsStay, ShownStay, AnswersStay}
-use Rattle.h2_exchange.specs.Sending.{IsFront}
+use Rattle.h2_exchange.specs.Laws.{EventsStay, StopsStay, EventsGoOn, CallsStay, ShownCallsStay, AnswersStay}
+use Rattle.h2_exchange.specs.Sending.{IsPrefix}
 use Rattle.h2_exchange.specs.Stops.{Stop, stop_at, stop_of, events}
 use Rattle.h2_exchange.proofs.Looking.{collect_more, collect_push, front_stays, front_goes_on, front_whole, given_more}
 
@@ -24,7 +24,7 @@ module _ (role : Role) (limits : H2Limits) (heads : List Outcome) where
       ∙ collect_more (events_of role limits heads) [] x (front_before (stop_at role limits heads) x more)
       ∙ ap (λ (y : List Step). all_events role limits heads y ++ collect (events_of role limits heads) x (front_before (stop_at role limits heads) x more)) (sym (front_whole (stop_at role limits heads) [] x e))
 
-  by_stop : (x more : List Step) (o : Option Stop) → stop_of role limits heads x ≡ o → IsFront (events role limits heads x) (events role limits heads (x ++ more))
+  by_stop : (x more : List Step) (o : Option Stop) → stop_of role limits heads x ≡ o → IsPrefix (events role limits heads x) (events role limits heads (x ++ more))
   by_stop x more None e = (collect (events_of role limits heads) x (front_before (stop_at role limits heads) x more), events_more x more e)
   by_stop x more (Some stop) e = ([], events_stopped x more stop e ∙ sym (append-nil (events role limits heads x)))
 
@@ -66,5 +66,5 @@ calls_stay method_of compressed too_long truncated es more =
 pub answers_stay : {E : Type 0} → AnswersStay E
 answers_stay status_of unknown es more = (collect (answers_of status_of unknown) es more, collect_more (answers_of status_of unknown) [] es more)
 
-pub shown_stay : {M E : Type 0} → ShownStay M E
-shown_stay cs more = (collect shown_of cs more, collect_more shown_of [] cs more)
+pub shown_calls_stay : {M E : Type 0} → ShownCallsStay M E
+shown_calls_stay cs more = (collect shown_of cs more, collect_more shown_of [] cs more)

@@ -13,7 +13,7 @@ use Rattle.h2_exchange.specs.declared.role.Role.TheVariants.{Client, Server}
 use Rattle.h2_exchange.specs.Blocks.{Block, open_behind, blocks, blocks_behind, left_open, completed, completed_by}
 use Rattle.h2_exchange.specs.Exchange.{Step, Received, Sent, received_of, sent_of, received, sent, some_step, collect}
 use Rattle.h2_exchange.specs.Frames.{stream_of, is_headers, is_window_update, increment_of, counted, is_data, has_end_stream, is_rst_stream}
-use Rattle.h2_exchange.specs.Laws.{WindowsAdd, BlocksAdd, StreamsEnd}
+use Rattle.h2_exchange.specs.Laws.{WindowSumsGrow, HeaderBlocksGrow, StreamsEnd}
 use Rattle.h2_exchange.specs.Streams.{of_client, highest, is_odd, begins, is_begun, is_ended_by, is_last_on, has_rst_stream, is_reset, is_over, is_new, begun}
 use Rattle.h2_exchange.proofs.Looking.{some_push, collect_push}
 
@@ -39,8 +39,8 @@ sent_received x f = sent_more x (Received f ∷ []) ∙ append-nil (sent x)
 
 -- ---- windows
 
-pub windows_add : WindowsAdd
-windows_add = record {
+pub window_sums_grow : WindowSumsGrow
+window_sums_grow = record {
   granted_push = λ id fs f. sum_by_push (λ (g : Frame). if is_window_update g && stream_of g == id then increment_of g else 0) fs f;
   spent_on_push = λ id fs f. sum_by_push (λ (g : Frame). if stream_of g == id then counted g else 0) fs f;
   spent_push = λ fs f. sum_by_push counted fs f;
@@ -58,8 +58,8 @@ blocks_more b (f ∷ fs) gs =
     ap (λ (bs : List Block). option_to_list (completed_by b f) ++ bs) (blocks_more (left_open b f) fs gs)
     ∙ sym (append_assoc (option_to_list (completed_by b f)) (blocks_behind (left_open b f) fs) (blocks_behind (open_behind (left_open b f) fs) gs))
 
-pub blocks_add : BlocksAdd
-blocks_add = record {
+pub header_blocks_grow : HeaderBlocksGrow
+header_blocks_grow = record {
   open_push = λ fs f. open_more None fs (f ∷ []);
   blocks_push = λ fs f. blocks_more None fs (f ∷ []) ∙ ap (λ (bs : List Block). blocks fs ++ bs) (append-nil (option_to_list (completed fs f)));
 }

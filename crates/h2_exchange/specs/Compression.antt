@@ -4,7 +4,7 @@ use Rattle.std.specs.Prelude.{◌≡◌, ◌≤◌, ◌==◌, sum_by, List, [], 
 use Rattle.h2_frames.specs.declared.frame.Frame.{Frame}
 use Rattle.hpack_tables.specs.declared.field.Field.{Field}
 use Rattle.hpack_tables.specs.Laws.{AreBytes}
-use Rattle.hpack_tables.specs.Room.{size_of}
+use Rattle.hpack_tables.specs.EntrySizes.{size_of}
 use Rattle.hpack_tables.specs.Writing.{Encoder, Writes, limited}
 use Rattle.h2_exchange.specs.Blocks.{Block, completed}
 use Rattle.h2_exchange.specs.Exchange.{Step, Received, Sent, sent}

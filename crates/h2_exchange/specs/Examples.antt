@@ -21,8 +21,8 @@ use Rattle.h2_exchange.specs.Samples.{limits, body, first_settings, settings, no
 use Rattle.h2_exchange.specs.Outgoing.{MaySend}
 use Rattle.h2_exchange.specs.Requests.{IsRequest}
 use Rattle.h2_exchange.specs.Sending.{first_text, goaway_text}
-use Rattle.h2_exchange.specs.Spelled.{Unclosed, Trailers, WasReset, IsResponse, parts}
-use Rattle.h2_exchange.specs.Stops.{Stop, Error, Calm, block_stop, has_resets_past, going, events, stop_of, IsBroken}
+use Rattle.h2_exchange.specs.StreamParts.{Unclosed, Trailers, WasReset, IsResponse, parts}
+use Rattle.h2_exchange.specs.Stops.{Stop, Error, Calm, block_stop, has_resets_past, before_stop, events, stop_of, IsBroken}
 use Rattle.h2_exchange.specs.StreamErrors.{stream_error_of}
 use Rattle.h2_exchange.specs.Streams.{is_idle, is_live, is_open, is_over}
 use Rattle.h2_exchange.specs.Windows.{stream_window, may_send}
@@ -190,7 +190,7 @@ pub record BadHeads : Type 0 where
   pub pseudo_trailer : is_malformed_trailers response ≡ true
 
 -- Calls of one stream, as a server reads them: two messages, a cut one, a flag, a refused head, a reset.
-pub record SpelledCalls : Type 0 where
+pub record CallsOfEvents : Type 0 where
   pub two_messages :
       calls served 12 8 3 (Head 1 request false ∷ Data 1 (0 ∷ 0 ∷ 0 ∷ []) ∷ Data 1 (0 ∷ 1 ∷ 9 ∷ 0 ∷ 0 ∷ 0 ∷ 0 ∷ 0 ∷ []) ∷ Ended 1 ∷ [])
       ≡ Begun 1 1 ∷ Request 1 (9 ∷ []) ∷ Request 1 [] ∷ Finished 1 ∷ []
@@ -203,7 +203,7 @@ pub record SpelledCalls : Type 0 where
   pub hidden_refusal : shown (calls served 12 8 3 (Head 1 response false ∷ [])) ≡ []
 
 -- Answers of one stream, as a client reads them: a message and its end, an end alone, a flag, and a reset behind the end.
-pub record SpelledAnswers : Type 0 where
+pub record AnswersOfEvents : Type 0 where
   pub message :
       answers (λ fields. length fields) 2 (Head 1 response false ∷ Data 1 (0 ∷ 0 ∷ 0 ∷ 0 ∷ 1 ∷ 9 ∷ []) ∷ Head 1 trailers true ∷ Reset 1 code.NO_ERROR ∷ [])
       ≡ Answered 1 (9 ∷ []) ∷ Closed 1 1 ∷ []
@@ -239,7 +239,7 @@ padded_head = Headers (body 12 5 (5 ∷ 131 ∷ []) (omega arith) (omega arith))
 
 pub record LastStreams : Type 0 where
   pub server : goaway_text Server begun code.NO_ERROR ≡ 0 ∷ 0 ∷ 8 ∷ 7 ∷ 0 ∷ 0 ∷ 0 ∷ 0 ∷ 0 ∷ 0 ∷ 0 ∷ 0 ∷ 1 ∷ 0 ∷ 0 ∷ 0 ∷ 0 ∷ []
-  pub before_the_break : going Server (limits 100) (Ok request ∷ Ok request ∷ []) (begun ++ Received padded_head ∷ []) ≡ begun
+  pub before_the_break : before_stop Server (limits 100) (Ok request ∷ Ok request ∷ []) (begun ++ Received padded_head ∷ []) ≡ begun
   pub client : goaway_text Client (Received no_settings ∷ Sent head ∷ []) code.NO_ERROR ≡ 0 ∷ 0 ∷ 8 ∷ 7 ∷ 0 ∷ 0 ∷ 0 ∷ 0 ∷ 0 ∷ 0 ∷ 0 ∷ 0 ∷ 0 ∷ 0 ∷ 0 ∷ 0 ∷ 0 ∷ []
 
 -- Frames that a server may send: its first ones, an acknowledgement, credit, a head, the reset of a second head, GOAWAY.

@@ -15,18 +15,18 @@ use Rattle.h2_exchange.specs.Content.{Outcome, AreRead}
 use Rattle.h2_exchange.specs.Events.{Event, events_of}
 use Rattle.h2_exchange.specs.Exchange.{Step, Received, Sent, received, sent, sent_text}
 use Rattle.h2_exchange.specs.Frames.{stream_of, is_window_update, increment_of, counted}
-use Rattle.h2_exchange.specs.Order.{Piece, gots, puts, end_of, due_from_peer, due_from_self, InOrder, IsExchange}
+use Rattle.h2_exchange.specs.Order.{Piece, received_bytes, sent_bytes, end_of, peer_preface, own_preface, InOrder, IsExchange}
 use Rattle.h2_exchange.specs.Outcomes.{AreEnough, AreKnown, IsReadExchange}
 use Rattle.h2_exchange.specs.Outgoing.{MaySend, HasPlace, SendsOnly}
-use Rattle.h2_exchange.specs.Sending.{IsFront}
-use Rattle.h2_exchange.specs.Spelled.{Item, IsFrontOf, IsAllOf}
+use Rattle.h2_exchange.specs.Sending.{IsPrefix}
+use Rattle.h2_exchange.specs.StreamParts.{Item, IsPrefixOf, IsAllOf}
 use Rattle.h2_exchange.specs.Stops.{Stop, stop_at, stop_of, events}
 use Rattle.h2_exchange.specs.Streams.{begins, is_begun, is_over}
 use Rattle.h2_exchange.specs.Windows.{granted_on, spent_on, spent}
 
 -- the events of an exchange stay where it goes on
 abbrev pub EventsStay : Type 0
-EventsStay = (role : Role) (limits : H2Limits) (heads : List Outcome) (x more : List Step) → IsFront (events role limits heads x) (events role limits heads (x ++ more))
+EventsStay = (role : Role) (limits : H2Limits) (heads : List Outcome) (x more : List Step) → IsPrefix (events role limits heads x) (events role limits heads (x ++ more))
 
 -- what stopped an exchange stays what stops it, and nothing comes behind
 abbrev pub StopsStay : Type 0
@@ -36,20 +36,20 @@ StopsStay =
 
 -- What is known of further header blocks changes nothing, where each that is looked at has its outcome. That is so where
 -- each completed block has one.
-pub record HeadsStay : Type 0 where
+pub record LaterBlocksChangeNothing : Type 0 where
   pub looked_at : (role : Role) (limits : H2Limits) (heads more : List Outcome) (x : List Step) → AreEnough role limits heads x →
       (stop_of role limits (heads ++ more) x ≡ stop_of role limits heads x) × (events role limits (heads ++ more) x ≡ events role limits heads x)
   pub completed : (role : Role) (limits : H2Limits) (heads : List Outcome) (x : List Step) → length (blocks (received x)) ≤ length heads → AreEnough role limits heads x
 
 -- an exchange of all frames is one that is read
-abbrev pub WholeIsRead : Type 0
-WholeIsRead =
+abbrev pub CompleteExchangeIsRead : Type 0
+CompleteExchangeIsRead =
     (role : Role) (limits : H2Limits) (heads : List Outcome) (ps : List Piece) (out : List ℕ) (x : List Step) (rest : List ℕ) →
     IsExchange role ps out x rest → AreKnown role limits heads x → IsReadExchange role limits heads ps out x rest
 
 -- whatever outcomes are known, an exchange has one stop and one list of events
-abbrev pub OneMeaning : Type 0
-OneMeaning =
+abbrev pub ExchangeIsDetermined : Type 0
+ExchangeIsDetermined =
     (role : Role) (limits : H2Limits) (heads others : List Outcome) (x : List Step) → AreKnown role limits heads x → AreKnown role limits others x →
     (stop_of role limits heads x ≡ stop_of role limits others x) × (events role limits heads x ≡ events role limits others x)
 
@@ -63,18 +63,18 @@ EventsGoOn =
 abbrev pub CallsStay : Type 0 → Type 0 → Type 0
 CallsStay M E =
     (method_of : List Field → Result M E) (compressed too_long truncated : E) (es more : List Event) →
-    IsFront (calls method_of compressed too_long truncated es) (calls method_of compressed too_long truncated (es ++ more))
+    IsPrefix (calls method_of compressed too_long truncated es) (calls method_of compressed too_long truncated (es ++ more))
 
 -- what is shown of calls stays where more are spelled
-abbrev pub ShownStay : Type 0 → Type 0 → Type 0
-ShownStay M E = (cs more : List (Call M E)) → IsFront (shown cs) (shown (cs ++ more))
+abbrev pub ShownCallsStay : Type 0 → Type 0 → Type 0
+ShownCallsStay M E = (cs more : List (Call M E)) → IsPrefix (shown cs) (shown (cs ++ more))
 
 abbrev pub AnswersStay : Type 0 → Type 0
-AnswersStay E = (status_of : List Field → E) (unknown : E) (es more : List Event) → IsFront (answers status_of unknown es) (answers status_of unknown (es ++ more))
+AnswersStay E = (status_of : List Field → E) (unknown : E) (es more : List Event) → IsPrefix (answers status_of unknown es) (answers status_of unknown (es ++ more))
 
 -- all of the items are a first part of them
-abbrev pub AllAreFront : Type 0 → Type 0
-AllAreFront E = (messages : List (List ℕ)) (rest : List ℕ) (end : Option E) (items : List (Item E)) → IsAllOf messages rest end items → IsFrontOf messages rest end items
+abbrev pub AllIsPrefix : Type 0 → Type 0
+AllIsPrefix E = (messages : List (List ℕ)) (rest : List ℕ) (end : Option E) (items : List (Item E)) → IsAllOf messages rest end items → IsPrefixOf messages rest end items
 
 -- What a side sends goes on with a received frame, and with a frame that may be sent and stands where it may.
 pub record SendingGoesOn (role : Role) (limits : H2Limits) (heads : List Outcome) (is_asked : List Step → ℕ → ErrorCode → Bool) (bytes rest : List ℕ) (x : List Step) : Type 0 where
@@ -93,13 +93,13 @@ pub record StreamsEnd : Type 0 where
   pub over_stays : (x more : List Step) (id : ℕ) → is_over x id ≡ true → is_over (x ++ more) id ≡ true
 
 -- what one more frame of a side adds to the sums of its windows
-pub record WindowsAdd : Type 0 where
+pub record WindowSumsGrow : Type 0 where
   pub granted_push : (id : ℕ) (fs : List Frame) (f : Frame) → granted_on id (fs ++ f ∷ []) ≡ granted_on id fs + (if is_window_update f && stream_of f == id then increment_of f else 0)
   pub spent_on_push : (id : ℕ) (fs : List Frame) (f : Frame) → spent_on id (fs ++ f ∷ []) ≡ spent_on id fs + (if stream_of f == id then counted f else 0)
   pub spent_push : (fs : List Frame) (f : Frame) → spent (fs ++ f ∷ []) ≡ spent fs + counted f
 
 -- what one more frame of a side does to its header blocks
-pub record BlocksAdd : Type 0 where
+pub record HeaderBlocksGrow : Type 0 where
   pub open_push : (fs : List Frame) (f : Frame) → open_block (fs ++ f ∷ []) ≡ left_open (open_block fs) f
   pub blocks_push : (fs : List Frame) (f : Frame) → blocks (fs ++ f ∷ []) ≡ blocks fs ++ option_to_list (completed fs f)
 
@@ -110,9 +110,9 @@ WrittenBlocksAreRead =
 
 -- The order of received and sent frames lasts: through a further call of the link, where all received frames were given
 -- before it, and through further frames, where all that was placed was sent before them.
-pub record OrderLasts : Type 0 where
-  pub told : (role : Role) (ps : List Piece) (p : Piece) (x : List Step) → (0 < length (received x) → end_of (due_from_peer role) (received x) ≤ length (gots ps)) → InOrder role ps x → InOrder role (ps ++ p ∷ []) x
-  pub more : (role : Role) (ps : List Piece) (x more : List Step) → length (puts ps) ≤ length (due_from_self role ++ sent_text x) → InOrder role ps x → InOrder role ps (x ++ more)
+pub record OrderIsKept : Type 0 where
+  pub told : (role : Role) (ps : List Piece) (p : Piece) (x : List Step) → (0 < length (received x) → end_of (peer_preface role) (received x) ≤ length (received_bytes ps)) → InOrder role ps x → InOrder role (ps ++ p ∷ []) x
+  pub more : (role : Role) (ps : List Piece) (x more : List Step) → length (sent_bytes ps) ≤ length (own_preface role ++ sent_text x) → InOrder role ps x → InOrder role ps (x ++ more)
 
 -- the calls that an exchange spells stand in their places
 abbrev pub CallsAreInPlace : Type 0 → Type 0 → Type 0

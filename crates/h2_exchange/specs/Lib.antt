@@ -15,7 +15,7 @@ pub mod Requests
 pub mod Rules
 pub mod Samples
 pub mod Sending
-pub mod Spelled
+pub mod StreamParts
 pub mod Stops
 pub mod StreamErrors
 pub mod Streams

@@ -5,7 +5,7 @@ use Rattle.h2_frames.specs.declared.code.ErrorCode.{ErrorCode}
 use Rattle.h2_frames.specs.declared.code.TheConstants.ErrorCode as code
 use Rattle.h2_frames.specs.declared.frame.Frame.{Frame}
 use Rattle.h2_frames.specs.Layout.{size_of, IsPartial, IsTooLong}
-use Rattle.h2_frames.specs.Stream.{Follows, Reads, preface, place_after}
+use Rattle.h2_frames.specs.Stream.{MatchesPreface, Reads, preface, place_after}
 use Rattle.h2_exchange.specs.declared.role.Role.{Role}
 use Rattle.h2_exchange.specs.declared.role.Role.TheVariants.{Client, Server}
 use Rattle.h2_exchange.specs.Exchange.{Step, Received, received, sent_text}
@@ -16,43 +16,43 @@ pub data Piece : Type 0 where
   Got : List ℕ → Piece
   Put : List ℕ → Piece
 
-abbrev pub got_of : Piece → List ℕ
-got_of (Got bytes) = bytes
-got_of (Put bytes) = []
+abbrev pub received_bytes_of : Piece → List ℕ
+received_bytes_of (Got bytes) = bytes
+received_bytes_of (Put bytes) = []
 
-abbrev pub put_of : Piece → List ℕ
-put_of (Got bytes) = []
-put_of (Put bytes) = bytes
+abbrev pub sent_bytes_of : Piece → List ℕ
+sent_bytes_of (Got bytes) = []
+sent_bytes_of (Put bytes) = bytes
 
-abbrev pub gots : List Piece → List ℕ
-gots ps = flat_map got_of ps
+abbrev pub received_bytes : List Piece → List ℕ
+received_bytes ps = flat_map received_bytes_of ps
 
-abbrev pub puts : List Piece → List ℕ
-puts ps = flat_map put_of ps
+abbrev pub sent_bytes : List Piece → List ℕ
+sent_bytes ps = flat_map sent_bytes_of ps
 
 -- ---- frames
 
 -- what the peer writes before its first frame (RFC 9113, section 3.4)
-abbrev pub due_from_peer : Role → List ℕ
-due_from_peer Server = preface
-due_from_peer Client = []
+abbrev pub peer_preface : Role → List ℕ
+peer_preface Server = preface
+peer_preface Client = []
 
 -- what this side writes before its first frame
-abbrev pub due_from_self : Role → List ℕ
-due_from_self Server = []
-due_from_self Client = preface
+abbrev pub own_preface : Role → List ℕ
+own_preface Server = []
+own_preface Client = preface
 
 -- the frames of any bytes, and the rest that is no whole frame; none where the preface is wrong
 abbrev pub AreFrames : List ℕ → List ℕ → List Frame → List ℕ → Type 0
 AreFrames due bytes frames rest =
-    (Follows due bytes × Reads (drop (length due) bytes) frames rest × (IsPartial rest ⊎ IsTooLong rest))
-    ⊎ ((Follows due bytes → ⊥) × (frames ≡ []) × (rest ≡ bytes))
+    (MatchesPreface due bytes × Reads (drop (length due) bytes) frames rest × (IsPartial rest ⊎ IsTooLong rest))
+    ⊎ ((MatchesPreface due bytes → ⊥) × (frames ≡ []) × (rest ≡ bytes))
 
 -- What the rest breaks by itself, with its code and place: the preface, or the length of a frame (section 4.2).
 abbrev pub RestBreaks : List ℕ → List ℕ → List Frame → List ℕ → ErrorCode → ℕ → Type 0
 RestBreaks due bytes frames rest why place =
-    ((Follows due bytes → ⊥) × (why ≡ code.PROTOCOL_ERROR) × (place ≡ 0))
-    ⊎ (Follows due bytes × IsTooLong rest × (why ≡ code.FRAME_SIZE_ERROR) × (place ≡ place_after due frames))
+    ((MatchesPreface due bytes → ⊥) × (why ≡ code.PROTOCOL_ERROR) × (place ≡ 0))
+    ⊎ (MatchesPreface due bytes × IsTooLong rest × (why ≡ code.FRAME_SIZE_ERROR) × (place ≡ place_after due frames))
 
 -- ---- the order
 
@@ -65,10 +65,10 @@ end_of due frames = length due + sum_by size_of frames
 abbrev pub InOrder : Role → List Piece → List Step → Type 0
 InOrder role ps x =
     (early late : List Piece) (before behind : List Step) (f : Frame) → ps ≡ early ++ late → x ≡ before ++ Received f ∷ behind →
-    length (gots early) < end_of (due_from_peer role) (received before ++ f ∷ []) → length (puts early) ≤ length (due_from_self role ++ sent_text before)
+    length (received_bytes early) < end_of (peer_preface role) (received before ++ f ∷ []) → length (sent_bytes early) ≤ length (own_preface role ++ sent_text before)
 
 -- The exchange of what a link told, with the bytes that wait to be sent and the received bytes that are no whole frame.
 pub record IsExchange (role : Role) (ps : List Piece) (out : List ℕ) (x : List Step) (rest : List ℕ) : Type 0 where
-  pub frames : AreFrames (due_from_peer role) (gots ps) (received x) rest
-  pub text : due_from_self role ++ sent_text x ≡ puts ps ++ out
+  pub frames : AreFrames (peer_preface role) (received_bytes ps) (received x) rest
+  pub text : own_preface role ++ sent_text x ≡ sent_bytes ps ++ out
   pub order : InOrder role ps x

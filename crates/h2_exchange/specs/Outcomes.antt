@@ -1,7 +1,7 @@
 -- What header blocks say, as far as an exchange is looked at: what stands behind a stop is never read.
 use Rattle.std.specs.Prelude.{◌≡◌, ℕ, ◌<◌, ◌&&◌, Bool, true, not, is_some, List, [], ◌∷◌, ◌++◌, length, drop, Some, None, Ok, Err}
 use Rattle.h2_frames.specs.declared.frame.Frame.{Frame}
-use Rattle.h2_frames.specs.Stream.{Follows, Reads}
+use Rattle.h2_frames.specs.Stream.{MatchesPreface, Reads}
 use Rattle.hpack_tables.specs.declared.field.Field.{Field}
 use Rattle.hpack_tables.specs.Reading.{State, BlockAt}
 use Rattle.h2_exchange.specs.declared.limits.H2Limits.{H2Limits}
@@ -9,7 +9,7 @@ use Rattle.h2_exchange.specs.declared.role.Role.{Role}
 use Rattle.h2_exchange.specs.Blocks.{Block, block_with, open_block, blocks, completed}
 use Rattle.h2_exchange.specs.Content.{Outcome}
 use Rattle.h2_exchange.specs.Exchange.{Step, Received, received, sent_text}
-use Rattle.h2_exchange.specs.Order.{Piece, gots, puts, due_from_peer, due_from_self, AreFrames, InOrder}
+use Rattle.h2_exchange.specs.Order.{Piece, received_bytes, sent_bytes, peer_preface, own_preface, AreFrames, InOrder}
 use Rattle.h2_exchange.specs.Rules.{frame_error}
 use Rattle.h2_exchange.specs.Stops.{block_stop, stop_of}
 
@@ -39,15 +39,15 @@ pub record AreKnown (role : Role) (limits : H2Limits) (heads : List Outcome) (x 
   pub enough : AreEnough role limits heads x
 
 -- these frames stand first in the bytes, behind what is due
-abbrev pub StandFirst : List ℕ → List ℕ → List Frame → Type 0
-StandFirst due bytes [] = Unit {0}
-StandFirst due bytes (f ∷ fs) = (rest : List ℕ) × Follows due bytes × Reads (drop (length due) bytes) (f ∷ fs) rest
+abbrev pub BeginWithFrames : List ℕ → List ℕ → List Frame → Type 0
+BeginWithFrames due bytes [] = Unit {0}
+BeginWithFrames due bytes (f ∷ fs) = (rest : List ℕ) × MatchesPreface due bytes × Reads (drop (length due) bytes) (f ∷ fs) rest
 
 -- The exchange of what a link told, as far as it is read: its frames stand first in what was received, and are all of them
 -- unless one stops it.
 pub record IsReadExchange (role : Role) (limits : H2Limits) (heads : List Outcome) (ps : List Piece) (out : List ℕ) (x : List Step) (rest : List ℕ) : Type 0 where
   pub known : AreKnown role limits heads x
-  pub front : StandFirst (due_from_peer role) (gots ps) (received x)
-  pub whole : stop_of role limits heads x ≡ None → AreFrames (due_from_peer role) (gots ps) (received x) rest
-  pub text : due_from_self role ++ sent_text x ≡ puts ps ++ out
+  pub front : BeginWithFrames (peer_preface role) (received_bytes ps) (received x)
+  pub whole : stop_of role limits heads x ≡ None → AreFrames (peer_preface role) (received_bytes ps) (received x) rest
+  pub text : own_preface role ++ sent_text x ≡ sent_bytes ps ++ out
   pub order : InOrder role ps x

@@ -13,8 +13,8 @@ use Rattle.h2_exchange.specs.Content.{Outcome, stream_error}
 use Rattle.h2_exchange.specs.Exchange.{Step, Received, Sent, received, sent, sent_text}
 use Rattle.h2_exchange.specs.Frames.{stream_of, is_data, is_headers, is_settings, is_ping, is_goaway, is_continuation, has_ack}
 use Rattle.h2_exchange.specs.Rules.{breaks_block_on}
-use Rattle.h2_exchange.specs.Sending.{IsFront, AreAcknowledged, first_text, own_settings, update_text, reset_text, goaway_text}
-use Rattle.h2_exchange.specs.Stops.{going, stop_of, IsBroken, IsCalm}
+use Rattle.h2_exchange.specs.Sending.{IsPrefix, AreAcknowledged, first_text, own_settings, update_text, reset_text, goaway_text}
+use Rattle.h2_exchange.specs.Stops.{before_stop, stop_of, IsBroken, IsCalm}
 use Rattle.h2_exchange.specs.Streams.{begins, is_live, is_open}
 use Rattle.h2_exchange.specs.Windows.{granted_on, spent_on, spent}
 
@@ -50,7 +50,7 @@ pub data MaySend (role : Role) (limits : H2Limits) (heads : List Outcome) (is_as
   -- a head, data or trailers on a stream that is open for sending
   carries : (is_data f || is_headers f || is_continuation f) ≡ true → is_open role past (stream_of f) ≡ true → MaySend role limits heads is_asked bytes rest past f
   -- GOAWAY, where the connection ends
-  goes_away : (why : ErrorCode) → EndsWith role limits heads bytes past rest why → frame_text f ≡ goaway_text role (going role limits heads past) why → MaySend role limits heads is_asked bytes rest past f
+  goes_away : (why : ErrorCode) → EndsWith role limits heads bytes past rest why → frame_text f ≡ goaway_text role (before_stop role limits heads past) why → MaySend role limits heads is_asked bytes rest past f
 
 -- a sent frame stands in no header block of another one, and behind no GOAWAY
 pub record HasPlace (past : List Step) (f : Frame) : Type 0 where
@@ -64,4 +64,4 @@ SendsOnly role limits heads is_asked bytes rest x =
 
 -- A side sends its first frames first.
 abbrev pub BeginsFirst : Role → H2Limits → List Step → Type 0
-BeginsFirst role limits x = IsFront (first_text role limits) (sent_text x)
+BeginsFirst role limits x = IsPrefix (first_text role limits) (sent_text x)

@@ -6,7 +6,7 @@ use Rattle.h2_frames.specs.declared.frame.Frame.{Frame}
 use Rattle.hpack_tables.specs.declared.field.Field.{Field}
 use Rattle.h2_exchange.specs.Content.{AreRead}
 use Rattle.h2_exchange.specs.Exchange.{Step, sent}
-use Rattle.h2_exchange.specs.Spelled.{Part, Fields, Piece, Stopped, IsOver, Item, IsFrontOf, IsAllOf, parts}
+use Rattle.h2_exchange.specs.StreamParts.{Part, Fields, Piece, Stopped, IsOver, Item, IsPrefixOf, IsAllOf, parts}
 use Rattle.h2_exchange.specs.Streams.{has_head}
 
 -- Behind a request head: DATA, of which the last may end the client's side, or a reset.
@@ -34,7 +34,7 @@ end_if false = None
 end_if true = Some tt
 
 -- What frames spell on a stream that a client began: this head, whole messages, a cut rest, and whether its side ended.
-pub record Asks (heads : List (List Field)) (frames : List Frame) (id : ℕ) (head : List Field) (messages : List (List ℕ)) (rest : List ℕ) (ended : Bool) : Type 0 where
+pub record CarriesRequest (heads : List (List Field)) (frames : List Frame) (id : ℕ) (head : List Field) (messages : List (List ℕ)) (rest : List ℕ) (ended : Bool) : Type 0 where
   pub bytes : List ℕ
   pub request : IsRequest head (parts id heads frames) bytes ended
   pub cut : messages_of 4294967295 bytes ≡ record { messages = messages; rest = rest; ending = NeedMore }
@@ -43,12 +43,12 @@ pub record Asks (heads : List (List Field)) (frames : List Frame) (id : ℕ) (he
 abbrev pub RequestsBegin : List Step → (ℕ → Asked) → Type 0
 RequestsBegin x asked =
     (heads : List (List Field)) × AreRead (sent x) (map Ok heads)
-    × ((id : ℕ) → (messages : List (List ℕ)) × (rest : List ℕ) × (ended : Bool) × Asks heads (sent x) id (asked id).head messages rest ended
-    × IsFrontOf messages rest (end_if ended) (asked id).items)
+    × ((id : ℕ) → (messages : List (List ℕ)) × (rest : List ℕ) × (ended : Bool) × CarriesRequest heads (sent x) id (asked id).head messages rest ended
+    × IsPrefixOf messages rest (end_if ended) (asked id).items)
 
 -- The sent frames can be read, and spell on this stream all that it is to ask.
 abbrev pub RequestIs : List Step → ℕ → Asked → Type 0
 RequestIs x id asked =
     (heads : List (List Field)) × AreRead (sent x) (map Ok heads) × (has_head (sent x) id ≡ true)
-    × (messages : List (List ℕ)) × (rest : List ℕ) × (ended : Bool) × Asks heads (sent x) id asked.head messages rest ended
+    × (messages : List (List ℕ)) × (rest : List ℕ) × (ended : Bool) × CarriesRequest heads (sent x) id asked.head messages rest ended
     × IsAllOf messages rest (end_if ended) asked.items

@@ -52,12 +52,12 @@ acks_for fs = flat_map (λ f. listed (ack_for f)) fs
 abbrev pub acks_in : List Frame → List (List ℕ)
 acks_in fs = map frame_text (filter (λ f. (is_settings f || is_ping f) && has_ack f) fs)
 
-abbrev pub IsFront : {A : Type 0} → List A → List A → Type 0
-IsFront {A} xs ys = (more : List A) × (ys ≡ xs ++ more)
+abbrev pub IsPrefix : {A : Type 0} → List A → List A → Type 0
+IsPrefix {A} xs ys = (more : List A) × (ys ≡ xs ++ more)
 
 -- Acknowledgements are sent in order, and no others. It holds at every front of an exchange, so that none comes early.
 abbrev pub AreAcknowledged : List Step → Type 0
-AreAcknowledged x = IsFront (acks_in (sent x)) (acks_for (received x))
+AreAcknowledged x = IsPrefix (acks_in (sent x)) (acks_for (received x))
 
 -- ---- credit
 

@@ -8,7 +8,7 @@ use Rattle.h2_frames.specs.declared.code.TheConstants.ErrorCode as code
 use Rattle.h2_frames.specs.declared.frame.Frame.{Frame}
 use Rattle.h2_frames.specs.Stream.{place_after}
 use Rattle.hpack_tables.specs.declared.fault.HpackFault.TheVariants.{ListTooLong}
-use Rattle.hpack_tables.specs.Room.{size_of}
+use Rattle.hpack_tables.specs.EntrySizes.{size_of}
 use Rattle.h2_exchange.specs.declared.limits.CalmCause.{CalmCause}
 use Rattle.h2_exchange.specs.declared.limits.CalmCause.TheVariants.{HeaderBytes, HeaderFrames, HeaderList, Resets}
 use Rattle.h2_exchange.specs.declared.limits.H2Limits.{H2Limits}
@@ -19,7 +19,7 @@ use Rattle.h2_exchange.specs.Content.{Outcome, outcome_at, stream_error}
 use Rattle.h2_exchange.specs.Events.{Event, all_events, bytes_on}
 use Rattle.h2_exchange.specs.Exchange.{Step, Received, Sent, received, sent, collect, front_before, first_given, first_broken}
 use Rattle.h2_exchange.specs.Frames.{stream_of, is_data, is_rst_stream, has_end_stream}
-use Rattle.h2_exchange.specs.Order.{RestBreaks, due_from_peer}
+use Rattle.h2_exchange.specs.Order.{RestBreaks, peer_preface}
 use Rattle.h2_exchange.specs.Rules.{frame_error}
 use Rattle.h2_exchange.specs.Streams.{is_begun, is_live, is_live_at}
 
@@ -44,7 +44,7 @@ content_stop limits place (Some (Err fault)) = Some (Error code.COMPRESSION_ERRO
 
 -- the offset of the first byte of the frame that is received next
 abbrev pub place_behind : Role → List Step → ℕ
-place_behind role past = place_after (due_from_peer role) (received past)
+place_behind role past = place_after (peer_preface role) (received past)
 
 -- The first rule that a received frame breaks, stream errors apart: those of the frame, then the counted limits of its
 -- header block, then the block's content, which is judged at the frame that completes it.
@@ -108,8 +108,8 @@ module _ (role : Role) (limits : H2Limits) (heads : List Outcome) where
   stop_at past s = option_or (received_stop past s) (if has_many_resets (past ++ s ∷ []) then Some (Calm Resets) else None)
 
   -- the frames before the one that stops the exchange
-  abbrev pub going : List Step → List Step
-  going x = front_before stop_at [] x
+  abbrev pub before_stop : List Step → List Step
+  before_stop x = front_before stop_at [] x
 
   -- what stops the exchange
   abbrev pub stop_of : List Step → Option Stop
@@ -117,12 +117,12 @@ module _ (role : Role) (limits : H2Limits) (heads : List Outcome) where
 
   -- the events of an exchange, which end before what stops it
   abbrev pub events : List Step → List Event
-  events x = all_events role limits heads (going x)
+  events x = all_events role limits heads (before_stop x)
 
   -- The first connection error of an exchange, with its code and place: that of a frame, or else that of the rest.
   abbrev pub IsBroken : List ℕ → List Step → List ℕ → ErrorCode → ℕ → Type 0
   IsBroken bytes x rest why place =
-      (stop_of x ≡ Some (Error why place)) ⊎ ((stop_of x ≡ None) × RestBreaks (due_from_peer role) bytes (received x) rest why place)
+      (stop_of x ≡ Some (Error why place)) ⊎ ((stop_of x ≡ None) × RestBreaks (peer_preface role) bytes (received x) rest why place)
 
   -- a counted limit is passed
   abbrev pub IsCalm : List Step → CalmCause → Type 0

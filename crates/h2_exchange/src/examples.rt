@@ -62,13 +62,13 @@ pub fn heads_are_judged()
 {}
 
 /// What a client asks, as a server reads it.
-pub fn calls_are_spelled()
-    ensures { example.SpelledCalls }
+pub fn events_give_calls()
+    ensures { example.CallsOfEvents }
 {}
 
 /// What a server answers, as a client reads it.
-pub fn answers_are_spelled()
-    ensures { example.SpelledAnswers }
+pub fn events_give_answers()
+    ensures { example.AnswersOfEvents }
 {}
 
 /// With 100 live streams the next one is refused.

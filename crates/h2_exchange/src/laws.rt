@@ -1,5 +1,5 @@
 //! Laws over exchanges that go on.
-ghost use Rattle.h2_exchange.specs.Laws.{AllAreFront, AnswersStay, BlocksAdd, CallsStay, EventsGoOn, EventsStay, HeadsStay, OneMeaning, OnlyTheseAreSent, OrderLasts, ShownStay, StopsStay, StreamsEnd, WholeIsRead, WindowsAdd, WrittenBlocksAreRead};
+ghost use Rattle.h2_exchange.specs.Laws.{AllIsPrefix, AnswersStay, HeaderBlocksGrow, CallsStay, EventsGoOn, EventsStay, LaterBlocksChangeNothing, ExchangeIsDetermined, OnlyTheseAreSent, OrderIsKept, ShownCallsStay, StopsStay, StreamsEnd, CompleteExchangeIsRead, WindowSumsGrow, WrittenBlocksAreRead};
 
 /// The events of an exchange begin those of the exchange that goes on.
 pub fn events_stay()
@@ -12,18 +12,18 @@ pub fn stops_stay()
 {}
 
 /// What stops an exchange, and its events, are the same whatever header blocks say at which it doesn't look.
-pub fn heads_stay()
-    ensures { HeadsStay }
+pub fn later_blocks_change_nothing()
+    ensures { LaterBlocksChangeNothing }
 {}
 
 /// An exchange that has all frames of a link is one that is read.
-pub fn whole_is_read()
-    ensures { WholeIsRead }
+pub fn complete_exchange_is_read()
+    ensures { CompleteExchangeIsRead }
 {}
 
 /// What stops an exchange, and its events, follow from its frames.
-pub fn one_meaning()
-    ensures { OneMeaning }
+pub fn exchange_is_determined()
+    ensures { ExchangeIsDetermined }
 {}
 
 /// One more frame adds its own events.
@@ -37,13 +37,13 @@ pub fn calls_stay<M, E>()
 {}
 
 /// What is shown of calls begins what is shown of more calls.
-pub fn shown_stay<M, E>()
-    ensures { ShownStay M E }
+pub fn shown_calls_stay<M, E>()
+    ensures { ShownCallsStay M E }
 {}
 
 /// All of what a stream is owed is a first part of it.
-pub fn all_are_front<E>()
-    ensures { AllAreFront E }
+pub fn all_is_prefix<E>()
+    ensures { AllIsPrefix E }
 {}
 
 /// A side that sends only what it may goes on so with a received frame, and with one that it may send.
@@ -62,13 +62,13 @@ pub fn streams_end()
 {}
 
 /// What one more frame adds to windows.
-pub fn windows_add()
-    ensures { WindowsAdd }
+pub fn window_sums_grow()
+    ensures { WindowSumsGrow }
 {}
 
 /// What one more frame does to header blocks.
-pub fn blocks_add()
-    ensures { BlocksAdd }
+pub fn header_blocks_grow()
+    ensures { HeaderBlocksGrow }
 {}
 
 /// The header blocks that one encoder wrote are read by the peer as their fields.
@@ -77,6 +77,6 @@ pub fn written_blocks_are_read()
 {}
 
 /// The order of received and sent frames lasts.
-pub fn order_lasts()
-    ensures { OrderLasts }
+pub fn order_is_kept()
+    ensures { OrderIsKept }
 {}

@@ -7,13 +7,13 @@ use Rattle.std.specs.Int.{w32, from_be_bytes}
 use Rattle.h2_frames.specs.declared.code.ErrorCode.{ErrorCode}
 use Rattle.h2_frames.specs.declared.frame.Frame.{Frame}
 use Rattle.h2_frames.specs.declared.reader.FrameNext.{FrameNext}
-use Rattle.h2_frames.specs.declared.reader.FrameNext.TheVariants as Says
+use Rattle.h2_frames.specs.declared.reader.FrameNext.TheVariants as NextFrame
 use Rattle.h2_frames.specs.declared.reader.Refusal.{Refusal}
 use Rattle.h2_frames.specs.declared.reader.Refusal.TheVariants as Was
 use Rattle.h2_frames.specs.Layout.{size_of, IsFrame, IsPartial, IsTooLong, BeginsWithFrame, said_length}
 use Rattle.h2_frames.specs.Reader.{Reader}
-use Rattle.h2_frames.proofs.Prefixes.{take_nothing, Follows-cut, Follows-append, Follows-all, Follows-self}
-use Rattle.h2_frames.specs.Stream.{Follows, Reads, Frames, TakesFrame, Gives, Breaks, IsBroken, HasAnother, Stands, StandsAlive, StandsDead, Answers, AreWhole, CarriesNext, CarriesPiece, EndsBetween, StaysDead, told, fed, place_at, place_after}
+use Rattle.h2_frames.proofs.Prefixes.{take_nothing, MatchesPreface-cut, MatchesPreface-append, MatchesPreface-all, MatchesPreface-self}
+use Rattle.h2_frames.specs.Stream.{MatchesPreface, Reads, Frames, TakesFrame, GivesFrame, Breaks, IsBroken, HasAnother, Stands, StandsAlive, StandsDead, Answers, AreWhole, CarriesNext, CarriesPiece, EndsBetween, StaysRefused, refusal_answer, fed, place_at, place_after}
 
 -- ---- frames and more bytes
 
@@ -47,17 +47,17 @@ long_due due bytes [] rest h some = omega (arith, length-drop (length due) bytes
 long_due due bytes (f ∷ fs) rest h some = due_first due bytes f fs rest h
 
 IsBroken-append : (due bytes more : List ℕ) (frames : List Frame) (code : ErrorCode) (place : ℕ) → IsBroken due bytes frames code place → IsBroken due (bytes ++ more) frames code place
-IsBroken-append due bytes more frames code place (inl h) = inl (λ p. h.0 (Follows-cut due bytes more p), h.1, h.2, h.3)
+IsBroken-append due bytes more frames code place (inl h) = inl (λ p. h.0 (MatchesPreface-cut due bytes more p), h.1, h.2, h.3)
 IsBroken-append due bytes more frames code place (inr h) =
     let le = long_due due bytes frames h.0 h.2 (omega (arith, h.3.0)) in
-    inr (h.0 ++ more, Follows-append due bytes more le h.1, subst (λ (x : List ℕ). Reads x frames (h.0 ++ more)) (sym (drop-append-le (length due) bytes more le)) (Reads-append (drop (length due) bytes) frames h.0 more h.2), too_long h.0 more h.3, h.4, h.5)
+    inr (h.0 ++ more, MatchesPreface-append due bytes more le h.1, subst (λ (x : List ℕ). Reads x frames (h.0 ++ more)) (sym (drop-append-le (length due) bytes more le)) (Reads-append (drop (length due) bytes) frames h.0 more h.2), too_long h.0 more h.3, h.4, h.5)
 
 alive_fed : (due : List ℕ) (r : Reader) (bytes piece : List ℕ) (given : List Frame) → StandsAlive due r bytes given
     → StandsAlive due (record { awaited = r.awaited; held = r.held ++ piece; place = r.place; refusal = r.refusal }) (bytes ++ piece) given
 alive_fed due r bytes piece [] h = (h.0, ap (λ (x : List ℕ). x ++ piece) h.1, h.2)
 alive_fed due r bytes piece (f ∷ fs) h =
     let le = due_first due bytes f fs r.held h.2 in
-    (h.0, Follows-append due bytes piece le h.1, subst (λ (x : List ℕ). Reads x (f ∷ fs) (r.held ++ piece)) (sym (drop-append-le (length due) bytes piece le)) (Reads-append (drop (length due) bytes) (f ∷ fs) r.held piece h.2), h.3)
+    (h.0, MatchesPreface-append due bytes piece le h.1, subst (λ (x : List ℕ). Reads x (f ∷ fs) (r.held ++ piece)) (sym (drop-append-le (length due) bytes piece le)) (Reads-append (drop (length due) bytes) (f ∷ fs) r.held piece h.2), h.3)
 
 frame_first : (rest more : List ℕ) → BeginsWithFrame rest → BeginsWithFrame (rest ++ more)
 frame_first rest more h =
@@ -67,7 +67,7 @@ frame_first rest more h =
 HasAnother-append : (due bytes more : List ℕ) (given : List Frame) → HasAnother due bytes given → HasAnother due (bytes ++ more) given
 HasAnother-append due bytes more given h =
     let le = long_due due bytes given h.0 h.2 (omega (arith, h.3.1)) in
-    (h.0 ++ more, Follows-append due bytes more le h.1, subst (λ (x : List ℕ). Reads x given (h.0 ++ more)) (sym (drop-append-le (length due) bytes more le)) (Reads-append (drop (length due) bytes) given h.0 more h.2), frame_first h.0 more h.3)
+    (h.0 ++ more, MatchesPreface-append due bytes more le h.1, subst (λ (x : List ℕ). Reads x given (h.0 ++ more)) (sym (drop-append-le (length due) bytes more le)) (Reads-append (drop (length due) bytes) given h.0 more h.2), frame_first h.0 more h.3)
 
 dead_fed : (why : Refusal) (due bytes piece : List ℕ) (given : List Frame) → StandsDead why due bytes given → StandsDead why due (bytes ++ piece) given
 dead_fed (Was.Broken code place) due bytes piece given h = IsBroken-append due bytes piece given code place h
@@ -111,11 +111,11 @@ no_wait awaited held e = ap (λ (x : List ℕ). drop (length x) held) e
 place_pushed : (due : List ℕ) (fs : List Frame) (f : Frame) (before now : ℕ) → before ≡ place_after due fs → now ≡ place_at (before + (0 + size_of f)) → now ≡ place_after due (fs ++ f ∷ [])
 place_pushed due fs f before now p q = omega (arith, sum_by_push size_of fs f)
 
-alive_gives : (due : List ℕ) (old : Reader) (f : Frame) (new : Reader) (bytes : List ℕ) (given : List Frame) → StandsAlive due old bytes given → Gives old f new → StandsAlive due new bytes (given ++ f ∷ [])
+alive_gives : (due : List ℕ) (old : Reader) (f : Frame) (new : Reader) (bytes : List ℕ) (given : List Frame) → StandsAlive due old bytes given → GivesFrame old f new → StandsAlive due new bytes (given ++ f ∷ [])
 alive_gives due old f new bytes [] h g =
     let due-is = h.0 in
     let bytes-is = h.1 in
-    let follows : Follows due bytes = subst (λ (x : List ℕ). Follows x bytes) due-is (subst (λ (x : List ℕ). Follows old.awaited x) bytes-is g.follows) in
+    let follows : MatchesPreface due bytes = subst (λ (x : List ℕ). MatchesPreface x bytes) due-is (subst (λ (x : List ℕ). MatchesPreface old.awaited x) bytes-is g.follows) in
     let takes : TakesFrame (drop (length due) bytes) f new.held = subst (λ (x : List ℕ). TakesFrame (drop (length x) bytes) f new.held) due-is (subst (λ (x : List ℕ). TakesFrame (drop (length old.awaited) x) f new.held) bytes-is g.takes) in
     (g.awaited, follows, (takes.whole, takes.frame, takes.rest_is), g.place ∙ first_place due old.awaited f old.place due-is h.2)
   where
@@ -129,11 +129,11 @@ alive_gives due old f new bytes (g ∷ gs) h gives =
       place_pushed due (g ∷ gs) f old.place new.place h.3 (gives.place ∙ ap (λ (x : List ℕ). place_at (old.place + (length x + size_of f))) h.0),
     )
 
-alive_waits : (due : List ℕ) (old : Reader) (bytes : List ℕ) (given : List Frame) → StandsAlive due old bytes given → Follows old.awaited old.held → IsPartial (drop (length old.awaited) old.held) → (rest : List ℕ) × Frames due bytes given rest
+alive_waits : (due : List ℕ) (old : Reader) (bytes : List ℕ) (given : List Frame) → StandsAlive due old bytes given → MatchesPreface old.awaited old.held → IsPartial (drop (length old.awaited) old.held) → (rest : List ℕ) × Frames due bytes given rest
 alive_waits due old bytes [] h follows partial = (
   drop (length due) bytes,
   record {
-    follows = subst (λ (x : List ℕ). Follows x bytes) h.0 (subst (λ (x : List ℕ). Follows old.awaited x) h.1 follows);
+    follows = subst (λ (x : List ℕ). MatchesPreface x bytes) h.0 (subst (λ (x : List ℕ). MatchesPreface old.awaited x) h.1 follows);
     reads = refl;
     partial = subst (λ (x : List ℕ). IsPartial (drop (length x) bytes)) h.0 (subst (λ (x : List ℕ). IsPartial (drop (length old.awaited) x)) h.1 partial);
   },
@@ -143,11 +143,11 @@ alive_waits due old bytes (f ∷ fs) h follows partial =
 
 alive_breaks : (due : List ℕ) (old : Reader) (bytes : List ℕ) (given : List Frame) (code : ErrorCode) (place : ℕ) → StandsAlive due old bytes given → Breaks old code place → IsBroken due bytes given code place
 alive_breaks due old bytes [] code place h (inl b) =
-    inl (subst (λ (x : List ℕ). Follows x bytes → ⊥) h.0 (subst (λ (x : List ℕ). Follows old.awaited x → ⊥) h.1 b.0), refl, b.1, b.2)
+    inl (subst (λ (x : List ℕ). MatchesPreface x bytes → ⊥) h.0 (subst (λ (x : List ℕ). MatchesPreface old.awaited x → ⊥) h.1 b.0), refl, b.1, b.2)
 alive_breaks due old bytes [] code place h (inr b) =
     inr (
       drop (length due) bytes,
-      subst (λ (x : List ℕ). Follows x bytes) h.0 (subst (λ (x : List ℕ). Follows old.awaited x) h.1 b.0),
+      subst (λ (x : List ℕ). MatchesPreface x bytes) h.0 (subst (λ (x : List ℕ). MatchesPreface old.awaited x) h.1 b.0),
       refl,
       subst (λ (x : List ℕ). IsTooLong (drop (length x) bytes)) h.0 (subst (λ (x : List ℕ). IsTooLong (drop (length old.awaited) x)) h.1 b.1),
       b.2,
@@ -156,47 +156,47 @@ alive_breaks due old bytes [] code place h (inr b) =
   where
     first : (due awaited : List ℕ) (before : ℕ) → awaited ≡ due → before ≡ 0 → place_at (before + length awaited) ≡ place_after due []
     first due awaited before e z = omega (arith, ap length e)
-alive_breaks due old bytes (f ∷ fs) code place h (inl b) = absurd (b.0 (subst (λ (x : List ℕ). Follows x old.held) (sym h.0) (sym (take_nothing (length old.held)))))
+alive_breaks due old bytes (f ∷ fs) code place h (inl b) = absurd (b.0 (subst (λ (x : List ℕ). MatchesPreface x old.held) (sym h.0) (sym (take_nothing (length old.held)))))
 alive_breaks due old bytes (f ∷ fs) code place h (inr b) =
     inr (old.held, h.1, h.2, subst IsTooLong (no_wait old.awaited old.held h.0) b.1, b.2, b.3 ∙ later old.awaited old.place h.0 h.3)
   where
     later : (awaited : List ℕ) (before : ℕ) → awaited ≡ [] → before ≡ place_after due (f ∷ fs) → place_at (before + length awaited) ≡ place_after due (f ∷ fs)
     later awaited before e p = omega (arith, ap length e)
 
-alive_another : (due : List ℕ) (r : Reader) (bytes : List ℕ) (given : List Frame) → StandsAlive due r bytes given → Follows r.awaited r.held → BeginsWithFrame (drop (length r.awaited) r.held) → HasAnother due bytes given
+alive_another : (due : List ℕ) (r : Reader) (bytes : List ℕ) (given : List Frame) → StandsAlive due r bytes given → MatchesPreface r.awaited r.held → BeginsWithFrame (drop (length r.awaited) r.held) → HasAnother due bytes given
 alive_another due r bytes [] h follows more = (
   drop (length due) bytes,
-  subst (λ (x : List ℕ). Follows x bytes) h.0 (subst (λ (x : List ℕ). Follows r.awaited x) h.1 follows),
+  subst (λ (x : List ℕ). MatchesPreface x bytes) h.0 (subst (λ (x : List ℕ). MatchesPreface r.awaited x) h.1 follows),
   refl,
   subst (λ (x : List ℕ). BeginsWithFrame (drop (length x) bytes)) h.0 (subst (λ (x : List ℕ). BeginsWithFrame (drop (length r.awaited) x)) h.1 more),
 )
 alive_another due r bytes (f ∷ fs) h follows more = (r.held, h.1, h.2, subst BeginsWithFrame (no_wait r.awaited r.held h.0) more)
 
 -- these frames stand first behind what is due
-abbrev pub IsFront : List ℕ → List ℕ → List Frame → Type 0
-IsFront due bytes [] = Unit {0}
-IsFront due bytes (f ∷ fs) = (rest : List ℕ) × Follows due bytes × Reads (drop (length due) bytes) (f ∷ fs) rest
+abbrev pub IsPrefix : List ℕ → List ℕ → List Frame → Type 0
+IsPrefix due bytes [] = Unit {0}
+IsPrefix due bytes (f ∷ fs) = (rest : List ℕ) × MatchesPreface due bytes × Reads (drop (length due) bytes) (f ∷ fs) rest
 
-front_alive : (due : List ℕ) (r : Reader) (bytes : List ℕ) (given : List Frame) → StandsAlive due r bytes given → IsFront due bytes given
+front_alive : (due : List ℕ) (r : Reader) (bytes : List ℕ) (given : List Frame) → StandsAlive due r bytes given → IsPrefix due bytes given
 front_alive due r bytes [] h = tt
 front_alive due r bytes (f ∷ fs) h = (r.held, h.1, h.2)
 
-front_broken : (due bytes : List ℕ) (given : List Frame) (code : ErrorCode) (place : ℕ) → IsBroken due bytes given code place → IsFront due bytes given
+front_broken : (due bytes : List ℕ) (given : List Frame) (code : ErrorCode) (place : ℕ) → IsBroken due bytes given code place → IsPrefix due bytes given
 front_broken due bytes [] code place b = tt
 front_broken due bytes (f ∷ fs) code place (inl b) = absurd cc
 front_broken due bytes (f ∷ fs) code place (inr b) = (b.0, b.1, b.2)
 
-front_another : (due bytes : List ℕ) (given : List Frame) → HasAnother due bytes given → IsFront due bytes given
+front_another : (due bytes : List ℕ) (given : List Frame) → HasAnother due bytes given → IsPrefix due bytes given
 front_another due bytes [] h = tt
 front_another due bytes (f ∷ fs) h = (h.0, h.1, h.2)
 
-front_by : (due : List ℕ) (r : Reader) (bytes : List ℕ) (given : List Frame) (refusal : Option Refusal) → MatchOption refusal (StandsAlive due r bytes given) (λ why. StandsDead why due bytes given) → IsFront due bytes given
+front_by : (due : List ℕ) (r : Reader) (bytes : List ℕ) (given : List Frame) (refusal : Option Refusal) → MatchOption refusal (StandsAlive due r bytes given) (λ why. StandsDead why due bytes given) → IsPrefix due bytes given
 front_by due r bytes given None h = front_alive due r bytes given h
 front_by due r bytes given (Some (Was.Broken code place)) h = front_broken due bytes given code place h
 front_by due r bytes given (Some Was.NoMemory) h = front_another due bytes given h
 
 -- the frames that a reader gave stand first in what it was fed
-pub front_of : (due : List ℕ) (r : Reader) (bytes : List ℕ) (given : List Frame) → Stands due r bytes given → IsFront due bytes given
+pub front_of : (due : List ℕ) (r : Reader) (bytes : List ℕ) (given : List Frame) → Stands due r bytes given → IsPrefix due bytes given
 front_of due r bytes given h = front_by due r bytes given r.refusal h
 
 reads_length : (bytes : List ℕ) (fs : List Frame) (rest : List ℕ) → Reads bytes fs rest → sum_by size_of fs + length rest ≡ length bytes
@@ -204,22 +204,22 @@ reads_length bytes [] rest h = omega (arith, ap length h)
 reads_length bytes (f ∷ fs) rest h = omega (arith, h.0, reads_length (drop (size_of f) bytes) fs rest h.2, length-drop (size_of f) bytes, sum_by-cons size_of f fs)
 
 -- and end within it
-pub front_within : (due bytes : List ℕ) (given : List Frame) → IsFront due bytes given → 0 < length given → length due + sum_by size_of given ≤ length bytes
+pub front_within : (due bytes : List ℕ) (given : List Frame) → IsPrefix due bytes given → 0 < length given → length due + sum_by size_of given ≤ length bytes
 front_within due bytes [] h some = absurd (omega arith)
 front_within due bytes (f ∷ fs) h some = omega (arith, due_first due bytes f fs h.0 h.2, reads_length (drop (length due) bytes) (f ∷ fs) h.0 h.2, length-drop (length due) bytes)
 
 pub carries_next : (old : Reader) (next : FrameNext) (new : Reader) → Answers old next new → CarriesNext old next new
-carries_next old (Says.Frame f) new a due bytes given h =
+carries_next old (NextFrame.Frame f) new a due bytes given h =
     from_none (StandsAlive due new bytes (given ++ f ∷ [])) (λ why. StandsDead why due bytes (given ++ f ∷ [])) new.refusal a.goes_on (alive_gives due old f new bytes given (when_none (StandsAlive due old bytes given) (λ why. StandsDead why due bytes given) old.refusal a.alive h) a)
-carries_next old Says.NeedMore new a due bytes given h =
+carries_next old NextFrame.NeedMore new a due bytes given h =
     (subst (λ (r : Reader). Stands due r bytes given) (sym a.same) h, alive_waits due old bytes given (when_none (StandsAlive due old bytes given) (λ why. StandsDead why due bytes given) old.refusal a.alive h) a.follows a.partial)
-carries_next old (Says.Refused code place) new a due bytes given h =
+carries_next old (NextFrame.Refused code place) new a due bytes given h =
     let broken : IsBroken due bytes given code place = elim a.cause [
       | inl same ↦ when_some (StandsAlive due old bytes given) (λ why. StandsDead why due bytes given) old.refusal (Was.Broken code place) (ap (λ (r : Reader). r.refusal) (sym same) ∙ a.dead) h
       | inr b ↦ alive_breaks due old bytes given code place (when_none (StandsAlive due old bytes given) (λ why. StandsDead why due bytes given) old.refusal b.0 h) b.1
     ] in
     (from_some (StandsAlive due new bytes given) (λ why. StandsDead why due bytes given) new.refusal (Was.Broken code place) a.dead broken, broken)
-carries_next old Says.NoMemory new a due bytes given h =
+carries_next old NextFrame.NoMemory new a due bytes given h =
     let another : HasAnother due bytes given = elim a.cause [
       | inl same ↦ when_some (StandsAlive due old bytes given) (λ why. StandsDead why due bytes given) old.refusal Was.NoMemory (ap (λ (r : Reader). r.refusal) (sym same) ∙ a.dead) h
       | inr b ↦ alive_another due old bytes given (when_none (StandsAlive due old bytes given) (λ why. StandsDead why due bytes given) old.refusal b.0 h) b.1 b.2
@@ -231,7 +231,7 @@ carries_next old Says.NoMemory new a due bytes given h =
 whole_alive : (due : List ℕ) (r : Reader) (bytes : List ℕ) (given : List Frame) → StandsAlive due r bytes given → r.held ≡ r.awaited → AreWhole due bytes given
 whole_alive due r bytes [] h e =
     let same : bytes ≡ due = sym h.1 ∙ e ∙ h.0 in
-    record { follows = subst (Follows due) (sym same) (Follows-self due); long = omega (arith, ap length same); reads = sym (drop_all (length due) bytes (omega (arith, ap length same))) }
+    record { follows = subst (MatchesPreface due) (sym same) (MatchesPreface-self due); long = omega (arith, ap length same); reads = sym (drop_all (length due) bytes (omega (arith, ap length same))) }
 whole_alive due r bytes (f ∷ fs) h e = record {
   follows = h.1;
   long = due_first due bytes f fs r.held h.2;
@@ -241,7 +241,7 @@ whole_alive due r bytes (f ∷ fs) h e = record {
 alive_whole : (due : List ℕ) (r : Reader) (bytes : List ℕ) (given : List Frame) → StandsAlive due r bytes given → AreWhole due bytes given → r.held ≡ r.awaited
 alive_whole due r bytes [] h w =
     let short : length bytes ≡ length due = omega (arith, w.long, ap length w.reads, length-drop (length due) bytes) in
-    h.1 ∙ Follows-all due bytes short w.follows ∙ sym h.0
+    h.1 ∙ MatchesPreface-all due bytes short w.follows ∙ sym h.0
 alive_whole due r bytes (f ∷ fs) h w =
     let a = reads_length (drop (length due) bytes) (f ∷ fs) r.held h.2 in
     let b = reads_length (drop (length due) bytes) (f ∷ fs) [] w.reads in
@@ -254,16 +254,16 @@ ends_between r answer says due bytes given h alive =
 
 -- ---- a reader that has refused
 
-pub stays_dead : (old : Reader) (next : FrameNext) (new : Reader) → Answers old next new → StaysDead old next new
-stays_dead old (Says.Frame f) new a why e = absurd (not_dead old.refusal why a.alive e)
-stays_dead old Says.NeedMore new a why e = absurd (not_dead old.refusal why a.alive e)
-stays_dead old (Says.Refused code place) new a why e =
+pub stays_dead : (old : Reader) (next : FrameNext) (new : Reader) → Answers old next new → StaysRefused old next new
+stays_dead old (NextFrame.Frame f) new a why e = absurd (not_dead old.refusal why a.alive e)
+stays_dead old NextFrame.NeedMore new a why e = absurd (not_dead old.refusal why a.alive e)
+stays_dead old (NextFrame.Refused code place) new a why e =
     elim a.cause [
-      | inl same ↦ (ap told (same_why (Was.Broken code place) why (sym a.dead ∙ ap (λ (r : Reader). r.refusal) same ∙ e)), same)
+      | inl same ↦ (ap refusal_answer (same_why (Was.Broken code place) why (sym a.dead ∙ ap (λ (r : Reader). r.refusal) same ∙ e)), same)
       | inr b ↦ absurd (not_dead old.refusal why b.0 e)
     ]
-stays_dead old Says.NoMemory new a why e =
+stays_dead old NextFrame.NoMemory new a why e =
     elim a.cause [
-      | inl same ↦ (ap told (same_why Was.NoMemory why (sym a.dead ∙ ap (λ (r : Reader). r.refusal) same ∙ e)), same)
+      | inl same ↦ (ap refusal_answer (same_why Was.NoMemory why (sym a.dead ∙ ap (λ (r : Reader). r.refusal) same ∙ e)), same)
       | inr b ↦ absurd (not_dead old.refusal why b.0 e)
     ]

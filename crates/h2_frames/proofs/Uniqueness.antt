@@ -64,7 +64,7 @@ up_length n le = omega arith
 word_small : (r s : ℕ) → r < 2 → s < 2 ^ 31 → r * 2 ^ 31 + s < 2 ^ 32
 word_small r s p q = omega arith
 
-pub record Says (bytes : List ℕ) (f : Frame) : Type 0 where
+pub record NextFrame (bytes : List ℕ) (f : Frame) : Type 0 where
   pub length_is : said_length bytes ≡ length (body_of f).payload
   pub number_is : get_or bytes 3 0 ≡ type_of f
   pub flags_is : get_or bytes 4 0 ≡ (body_of f).flags
@@ -86,7 +86,7 @@ text_says number flags reserved stream payload front short two small e = (
     low : (r s : ℕ) → s < 2 ^ 31 → (r * 2 ^ 31 + s) % 2 ^ 31 ≡ s
     low r s lt = omega arith
 
-says_of : (bytes : List ℕ) (f : Frame) → size_of f ≤ length bytes → IsFrame (take (size_of f) bytes) f → Says bytes f
+says_of : (bytes : List ℕ) (f : Frame) → size_of f ≤ length bytes → IsFrame (take (size_of f) bytes) f → NextFrame bytes f
 says_of bytes f le is =
     let n = length (body_of f).payload in
     let front = take (size_of f) bytes in
@@ -105,14 +105,14 @@ says_of bytes f le is =
     split : (n : ℕ) → 9 + n ≡ 5 + (4 + n)
     split n = omega arith
 
-one_frame : (bytes : List ℕ) (f g : Frame) → Says bytes f → Says bytes g → f ≡ g
+one_frame : (bytes : List ℕ) (f g : Frame) → NextFrame bytes f → NextFrame bytes g → f ≡ g
 one_frame bytes f g s t =
     same_frame f g (sym s.number_is ∙ t.number_is)
     (same_body (body_of f) (body_of g) (sym s.flags_is ∙ t.flags_is) (sym s.stream_is ∙ t.stream_is) (sym s.payload_is ∙ t.payload_is))
 
 -- ---- where no frame stands in front
 
-stuck : (bytes : List ℕ) (f : Frame) → IsPartial bytes ⊎ IsTooLong bytes → size_of f ≤ length bytes → Says bytes f → ⊥
+stuck : (bytes : List ℕ) (f : Frame) → IsPartial bytes ⊎ IsTooLong bytes → size_of f ≤ length bytes → NextFrame bytes f → ⊥
 stuck bytes f (inl (inl short)) le s = omega arith
 stuck bytes f (inl (inr p)) le s = omega (arith, p.1, s.length_is, le)
 stuck bytes f (inr long) le s = let short : length (body_of f).payload ≤ 16384 = (body_of f).payload_in_range in omega (arith, long.1, s.length_is, short)
@@ -125,7 +125,7 @@ one_reading bytes other [] (g ∷ gs) r q same h k ends ends' =
 one_reading bytes other (f ∷ fs) [] r q same h k ends ends' =
     absurd (stuck bytes f (subst (λ (x : List ℕ). IsPartial x ⊎ IsTooLong x) (k ∙ sym same) ends') h.0 (says_of bytes f h.0 h.1))
 one_reading bytes other (f ∷ fs) (g ∷ gs) r q same h k ends ends' =
-    let first : f ≡ g = one_frame bytes f g (says_of bytes f h.0 h.1) (subst (λ (x : List ℕ). Says x g) (sym same) (says_of other g k.0 k.1)) in
+    let first : f ≡ g = one_frame bytes f g (says_of bytes f h.0 h.1) (subst (λ (x : List ℕ). NextFrame x g) (sym same) (says_of other g k.0 k.1)) in
     let rest = one_reading (drop (size_of f) bytes) (drop (size_of g) other) fs gs r q (ap (λ (x : List ℕ). drop (size_of f) x) same ∙ ap (λ (x : Frame). drop (size_of x) other) first) h.2 k.2 ends ends' in
     (ap (λ (x : Frame). x ∷ fs) first ∙ ap (λ (x : List Frame). g ∷ x) rest.0, rest.1)
 

@@ -1,6 +1,6 @@
 ghost use Rattle.std.specs.Prelude.{◌≡◌, ◌+◌, ◌<◌, ◌≤◌, ◌↔◌, [], ◌++◌, length, take, drop, slice_index, IsTrue, IfOk, OnOk, OnErr};
 ghost use Rattle.h2_frames.specs.Layout.{IsBytes, IsHeaderOf};
-ghost use Rattle.h2_frames.specs.Stream.{Follows};
+ghost use Rattle.h2_frames.specs.Stream.{MatchesPreface};
 
 use crate::header::{Header, header_at};
 use bytes::{Bytes, BytesMut};
@@ -10,12 +10,12 @@ use std::marker::Model;
 /// The bytes that no frame was made of yet. The latest piece is shared with who gave it, and only
 /// what was left of the pieces before it is joined by copying.
 #[derive(Debug, Drop)]
-pub struct Held {
+pub struct BufferedBytes {
     joined: BytesMut,
     piece: Bytes,
 }
 
-impl Model for Held {
+impl Model for BufferedBytes {
     ghost use Rattle.std.specs.Prelude.{ℕ, List, ◌++◌};
 
     ghost Value = { List ℕ };
@@ -25,7 +25,7 @@ impl Model for Held {
 
 /// Whether the bytes begin with those that are due, or are a first part of them.
 fn follows(due: &[u8], bytes: &[u8]) -> bool
-    ensures { IsTrue result ↔ Follows due.now bytes.now }
+    ensures { IsTrue result ↔ MatchesPreface due.now bytes.now }
 {
     let n = bytes.len().min(due.len());
     bytes[..n] == due[..n]
@@ -45,11 +45,11 @@ fn join(joined: &mut BytesMut, piece: &mut Bytes, end: usize) -> Result<(), Allo
     Ok(())
 }
 
-impl Held {
-    pub fn new(alloc: Global) -> Held
+impl BufferedBytes {
+    pub fn new(alloc: Global) -> BufferedBytes
         ensures { result ≡ [] }
     {
-        Held {
+        BufferedBytes {
             joined: BytesMut::new(alloc),
             piece: Bytes::new(),
         }
@@ -87,7 +87,7 @@ impl Held {
 
     /// Whether the bytes begin with those that are due, or are a first part of them.
     pub fn follows(&self, due: &[u8]) -> bool
-        ensures { IsTrue result ↔ Follows due.now self.now }
+        ensures { IsTrue result ↔ MatchesPreface due.now self.now }
     {
         let joined = self.joined.as_slice();
         let n = joined.len().min(due.len());

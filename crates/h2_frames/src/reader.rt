@@ -1,11 +1,11 @@
 ghost use Rattle.std.specs.Prelude.{◌≡◌, ◌+◌, ◌≤◌, ◌<◌, ◌==◌, ◌↔◌, [], ◌++◌, length, take, drop, IsTrue, IfOk, OnOk, OnErr};
 ghost use Rattle.h2_frames.specs.Layout.{IsBytes, IsHeaderOf, size_of};
-ghost use Rattle.h2_frames.specs.Stream.{TakesFrame, preface, first_due, fed, Answers, CarriesNext, CarriesPiece, EndsBetween, Stands, StaysDead};
+ghost use Rattle.h2_frames.specs.Stream.{TakesFrame, preface, preface_if, fed, Answers, CarriesNext, CarriesPiece, EndsBetween, Stands, StaysRefused};
 
 use crate::code::ErrorCode;
 use crate::frame::{Frame, FrameBody};
 use crate::header::Header;
-use crate::held::Held;
+use crate::held::BufferedBytes;
 use bytes::Bytes;
 use std::alloc::{AllocError, Global};
 use std::marker::Model;
@@ -35,7 +35,7 @@ pub enum Refusal {
 /// Takes bytes in any pieces, and gives the frames that they spell.
 #[derive(Debug, Drop)]
 pub struct FrameReader {
-    held: Held,
+    held: BufferedBytes,
     preface_due: bool,
     place: u64,
     refusal: Option<Refusal>,
@@ -46,10 +46,10 @@ impl Model for FrameReader {
 
     ghost Value = { Reader };
 
-    ghost use Rattle.h2_frames.specs.Stream.{first_due};
+    ghost use Rattle.h2_frames.specs.Stream.{preface_if};
 
     ghost view = { λ r. record {
-      awaited = first_due r.preface_due;
+      awaited = preface_if r.preface_due;
       held = r.held;
       place = r.place;
       refusal = r.refusal;
@@ -58,7 +58,7 @@ impl Model for FrameReader {
 
 /// Takes the frame of this header, whose bytes stand between `start` and `end`.
 fn take_frame(
-    held: &mut Held,
+    held: &mut BufferedBytes,
     start: usize,
     end: usize,
     header: Header,
@@ -86,16 +86,16 @@ fn take_frame(
 impl FrameReader {
     /// A reader that was fed nothing, with the client's preface due or not.
     pub fn new(alloc: Global, preface: bool) -> Result<FrameReader, AllocError>
-        ensures stands { IfOk result (λ r. Stands (first_due preface) r [] []) }
+        ensures stands { IfOk result (λ r. Stands (preface_if preface) r [] []) }
         ensures fresh { IfOk result (λ r. r ≡ record {
-          awaited = first_due preface;
+          awaited = preface_if preface;
           held = [];
           place = 0;
           refusal = None;
         }) }
     {
         Ok(FrameReader {
-            held: Held::new(alloc),
+            held: BufferedBytes::new(alloc),
             preface_due: preface,
             place: 0,
             refusal: None,
@@ -126,7 +126,7 @@ impl FrameReader {
     pub fn next(&mut self) -> FrameNext
         ensures answers { Answers self.old result self.new }
         ensures stands { CarriesNext self.old result self.new }
-        ensures dead { StaysDead self.old result self.new }
+        ensures dead { StaysRefused self.old result self.new }
     {
         self.step()
     }

@@ -19,7 +19,7 @@ use Rattle.h2_exchange.specs.StreamErrors.{live_error, is_full, block_error, com
 use Rattle.h2_exchange.proofs.Looking.{or_nothing}
 use Rattle.h2_exchange.proofs.Steps.{begun_within, begun_has, begun_once}
 use Rattle.h2_streams.specs.declared.live.Stream.{Stream}
-use Rattle.h2_streams.specs.Judging.{live_error_in}
+use Rattle.h2_streams.specs.ConnectionErrors.{live_error_in}
 use Rattle.h2_streams.specs.Receiving as hear
 use Rattle.h2_streams.specs.Set.{Set, at, new_stream}
 use Rattle.h2_streams.specs.Stands.{stream_at, StandsFor, IsUntouched}

@@ -18,7 +18,7 @@ use Rattle.h2_exchange.specs.Exchange.{Step, Sent, received, sent}
 use Rattle.h2_exchange.specs.Frames.{stream_of, is_data, is_headers, has_end_stream, has_end_headers}
 use Rattle.h2_exchange.specs.Streams.{of_client, highest, is_odd, is_new, begins, begun, is_begun, is_live, is_reset, is_ended_by, is_last_on, live}
 use Rattle.h2_exchange.specs.Windows.{initial_window, granted_on, spent_on, spent}
-use Rattle.h2_exchange.proofs.Steps.{received_sent, sent_push, windows_add, blocks_add, begun_push, begun_within, begun_has, begun_list_push, highest_push}
+use Rattle.h2_exchange.proofs.Steps.{received_sent, sent_push, window_sums_grow, header_blocks_grow, begun_push, begun_within, begun_has, begun_list_push, highest_push}
 use Rattle.h2_streams.specs.declared.live.Stream.{Stream}
 use Rattle.h2_streams.specs.Set.{Set, begun as begun_set, new_stream, next_id}
 use Rattle.h2_streams.specs.Stands.{stream_by, stream_at, StandsFor, IsUntouched, is_on}
@@ -75,7 +75,7 @@ or_falses false d false c e f = cc
 
 ended_head : (fs : List Frame) (b : FrameBody) (id : ℕ) → has_end_stream (Headers b) ≡ false → is_ended_by (fs ++ Headers b ∷ []) id ≡ is_ended_by fs id
 ended_head fs b id e =
-    ap (λ (bs : List Block). list_any (λ g. is_data g && has_end_stream g && stream_of g == id) (fs ++ Headers b ∷ []) || list_any (is_last_on id) bs) (blocks_add.blocks_push fs (Headers b))
+    ap (λ (bs : List Block). list_any (λ g. is_data g && has_end_stream g && stream_of g == id) (fs ++ Headers b ∷ []) || list_any (is_last_on id) bs) (header_blocks_grow.blocks_push fs (Headers b))
     ∙ ap (λ (t : Bool). list_any (λ g. is_data g && has_end_stream g && stream_of g == id) (fs ++ Headers b ∷ []) || t) (list_any-append (is_last_on id) (blocks fs) (option_to_list (completed fs (Headers b))))
     ∙ or_falses (list_any (λ g. is_data g && has_end_stream g && stream_of g == id) fs) (list_any (λ g. is_data g && has_end_stream g && stream_of g == id) (fs ++ Headers b ∷ [])) (list_any (is_last_on id) (blocks fs)) (list_any (is_last_on id) (option_to_list (completed fs (Headers b))))
     (list_any-append (λ g. is_data g && has_end_stream g && stream_of g == id) fs (Headers b ∷ []) ∙ or_false (list_any (λ g. is_data g && has_end_stream g && stream_of g == id) fs) false refl) (no_last (open_block fs) b id e)
@@ -89,7 +89,7 @@ module _ (limits : H2Limits) (x : List Step) (b : FrameBody) (k : ℕ) (on : b.s
       ap (λ (rs : List Frame). stream_by limits rs (sent after) id) (received_sent x (Headers b))
       ∙ ap (λ (ss : List Frame). stream_by limits (received x) ss id) (sent_push x (Headers b))
       ∙ same_made limits (received x) id (is_ended_by (sent x ++ Headers b ∷ []) id) (is_ended_by (sent x) id) (spent_on id (sent x ++ Headers b ∷ [])) (spent_on id (sent x)) (granted_on id (sent x ++ Headers b ∷ [])) (granted_on id (sent x))
-      (ended_head (sent x) b id no-end) (windows_add.spent_on_push id (sent x) (Headers b) ∙ plus_if_zero (spent_on id (sent x)) (b.stream == id)) (windows_add.granted_push id (sent x) (Headers b) ∙ zero_more (granted_on id (sent x)))
+      (ended_head (sent x) b id no-end) (window_sums_grow.spent_on_push id (sent x) (Headers b) ∙ plus_if_zero (spent_on id (sent x)) (b.stream == id)) (window_sums_grow.granted_push id (sent x) (Headers b) ∙ zero_more (granted_on id (sent x)))
     where
       zero_more : (n : ℕ) → n + 0 ≡ n
       zero_more n = omega arith
@@ -127,7 +127,7 @@ module _ (limits : H2Limits) (x : List Step) (b : FrameBody) (k : ℕ) (on : b.s
     live_other id f =
         live_by Client x after id (is_begun Client x id) (is_reset x id) (is_ended_by (received x) id) (is_ended_by (sent x) id)
         (begun_push Client x (Sent (Headers b)) id ∙ or_false (is_begun Client x id) (begins Client id x (Sent (Headers b))) (begins_is id ∙ isnt_on k b.stream id on f))
-        (no_reset id) (ap (λ (s : Stream). s.is_ended_there) (same_stream id)) (ap (λ (s : Stream). s.is_ended_here) (same_stream id))
+        (no_reset id) (ap (λ (s : Stream). s.is_closed_remote) (same_stream id)) (ap (λ (s : Stream). s.is_closed_local) (same_stream id))
 
     or_is_true : (a c : Bool) → c ≡ true → (a || c) ≡ true
     or_is_true true c e = refl
@@ -137,7 +137,7 @@ module _ (limits : H2Limits) (x : List Step) (b : FrameBody) (k : ℕ) (on : b.s
     live_new u =
         live_by Client x after k true false false false
         (begun_push Client x (Sent (Headers b)) k ∙ or_is_true (is_begun Client x k) (begins Client k x (Sent (Headers b))) (begins_is k ∙ ap (λ (n : ℕ). n == k) on ∙ self_eq k))
-        (no_reset k ∙ u.no_reset) (ap (λ (s : Stream). s.is_ended_there) (same_stream k ∙ u.as_new)) (ap (λ (s : Stream). s.is_ended_here) (same_stream k ∙ u.as_new))
+        (no_reset k ∙ u.no_reset) (ap (λ (s : Stream). s.is_closed_remote) (same_stream k ∙ u.as_new)) (ap (λ (s : Stream). s.is_closed_local) (same_stream k ∙ u.as_new))
 
     is_false : (t : Bool) → (t ≡ true → ⊥) → t ≡ false
     is_false true f = absurd (f refl)
@@ -168,8 +168,8 @@ begins_stream s x k b h client next on no-end =
       started_is = h.started_is ∙ ap (λ (fs : List Frame). not (length fs == 0)) (sym rs);
       block_is = h.block_is ∙ ap (λ (fs : List Frame). option_map (λ (c : Block). (c.stream, c.last)) (open_block fs)) (sym rs);
       initial_is = h.initial_is ∙ ap initial_window (sym rs);
-      send_is = omega (arith, h.send_is, ap spent ss, windows_add.spent_push (sent x) (Headers b), ap (granted_on 0) rs);
-      receive_is = omega (arith, h.receive_is, ap (granted_on 0) ss, windows_add.granted_push 0 (sent x) (Headers b), ap spent rs);
+      send_is = omega (arith, h.send_is, ap spent ss, window_sums_grow.spent_push (sent x) (Headers b), ap (granted_on 0) rs);
+      receive_is = omega (arith, h.receive_is, ap (granted_on 0) ss, window_sums_grow.granted_push 0 (sent x) (Headers b), ap spent rs);
       initial_small = h.initial_small;
       covered = covered;
       within = within;
@@ -208,7 +208,7 @@ begins_stream s x k b h client next on no-end =
     untouched_k = h.untouched k low odd
 
     same_counts : (id : ℕ) → spent_on id (sent x) < 2147483648 + granted_on id (received x) → spent_on id (sent after) < 2147483648 + granted_on id (received after)
-    same_counts id lt = omega (arith, lt, ap (spent_on id) ss, windows_add.spent_on_push id (sent x) (Headers b), plus_if_zero (spent_on id (sent x)) (b.stream == id), ap (granted_on id) rs)
+    same_counts id lt = omega (arith, lt, ap (spent_on id) ss, window_sums_grow.spent_on_push id (sent x) (Headers b), plus_if_zero (spent_on id (sent x)) (b.stream == id), ap (granted_on id) rs)
 
     covered : (id : ℕ) → is_live s.role after id ≡ true → spent_on id (sent after) < 2147483648 + granted_on id (received after)
     covered id e =
@@ -217,7 +217,7 @@ begins_stream s x k b h client next on no-end =
         (λ f g. same_counts id (h.covered id (ap (λ (r : Role). is_live r x id) client ∙ sym (live_other s.limits x b k on no-end odd above id f) ∙ ap (λ (r : Role). is_live r after id) (sym client) ∙ g))) e
 
     same_bounds : (id : ℕ) → spent_on id (received x) ≤ s.limits.window + granted_on id (sent x) → spent_on id (received after) ≤ s.limits.window + granted_on id (sent after)
-    same_bounds id le = omega (arith, le, ap (spent_on id) rs, ap (granted_on id) ss, windows_add.granted_push id (sent x) (Headers b))
+    same_bounds id le = omega (arith, le, ap (spent_on id) rs, ap (granted_on id) ss, window_sums_grow.granted_push id (sent x) (Headers b))
 
     within : (id : ℕ) → is_live s.role after id ≡ true → spent_on id (received after) ≤ s.limits.window + granted_on id (sent after)
     within id e =

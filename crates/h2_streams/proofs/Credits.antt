@@ -13,7 +13,7 @@ use Rattle.h2_exchange.specs.Exchange.{Step, Received, Sent, received, sent, som
 use Rattle.h2_exchange.specs.Frames.{stream_of, is_headers, increment_of}
 use Rattle.h2_exchange.specs.Streams.{of_client, highest, is_odd, begins, begun, is_begun, is_live, is_over, is_reset, is_ended_by, has_head, live}
 use Rattle.h2_exchange.specs.Windows.{initial_window, granted_on, spent_on, spent}
-use Rattle.h2_exchange.proofs.Steps.{received_sent, sent_push, windows_add, begun_within, begun_has}
+use Rattle.h2_exchange.proofs.Steps.{received_sent, sent_push, window_sums_grow, begun_within, begun_has}
 use Rattle.h2_streams.specs.declared.live.Stream.{Stream}
 use Rattle.h2_streams.specs.Live.{replaced}
 use Rattle.h2_streams.specs.Set.{Set, at, credited, credited_at, credited_on}
@@ -45,7 +45,7 @@ module _ (role : Role) (limits : H2Limits) (x : List Step) (b : FrameBody) (k : 
   no_reset id = reset_sent x (WindowUpdate b) id ∙ or_false (is_reset x id) false refl
 
   here : (id : ℕ) → is_ended_by (sent after) id ≡ is_ended_by (sent x) id
-  here id = by_number (λ id. is_ended_by (sent after) id ≡ is_ended_by (sent x) id) k id (λ f. ap (is_ended_by (sent after)) f ∙ ap (λ (s : Stream). s.is_ended_here) this_changed ∙ ap (is_ended_by (sent x)) (sym f)) (λ f. ap (λ (s : Stream). s.is_ended_here) (other_same id f))
+  here id = by_number (λ id. is_ended_by (sent after) id ≡ is_ended_by (sent x) id) k id (λ f. ap (is_ended_by (sent after)) f ∙ ap (λ (s : Stream). s.is_closed_local) this_changed ∙ ap (is_ended_by (sent x)) (sym f)) (λ f. ap (λ (s : Stream). s.is_closed_local) (other_same id f))
 
   pub live_same : (id : ℕ) → is_live role after id ≡ is_live role x id
   live_same id =
@@ -61,7 +61,7 @@ module _ (role : Role) (limits : H2Limits) (x : List Step) (b : FrameBody) (k : 
   more_room n e le = this_changed ∙ ap roomy (granted limits.window (granted_on k (sent x)) (spent_on k (received x)) (increment_of (WindowUpdate b)) n e le)
     where
       roomy : ℕ → Stream
-      roomy r = record { id = k; is_ended_here = is_ended_by (sent x) k; is_ended_there = is_ended_by (received x) k; has_head = has_head (received x) k; room = 2147483648 + granted_on k (received x) - spent_on k (sent x); receive = r }
+      roomy r = record { id = k; is_closed_local = is_ended_by (sent x) k; is_closed_remote = is_ended_by (received x) k; has_head = has_head (received x) k; room = 2147483648 + granted_on k (received x) - spent_on k (sent x); receive = r }
 
       granted : (w g u m n : ℕ) → m ≡ n → u ≤ w + g → w + (g + m) - u ≡ w + g - u + n
       granted w g u m n e le = omega arith
@@ -120,11 +120,11 @@ credits_stream s x k n b h alive on inc =
       started_is = h.started_is ∙ ap (λ (fs : List Frame). not (length fs == 0)) (sym rs);
       block_is = h.block_is ∙ ap (λ (fs : List Frame). option_map (λ (c : Block). (c.stream, c.last)) (open_block fs)) (sym rs);
       initial_is = h.initial_is ∙ ap initial_window (sym rs);
-      send_is = omega (arith, h.send_is, ap spent ss, windows_add.spent_push (sent x) (WindowUpdate b), ap (granted_on 0) rs);
-      receive_is = omega (arith, h.receive_is, ap (granted_on 0) ss, windows_add.granted_push 0 (sent x) (WindowUpdate b), if_test (b.stream == 0) (increment_of (WindowUpdate b)) (granted_on 0 (sent x)) (isnt_on k b.stream 0 on (λ f. not_zero f)), ap spent rs);
+      send_is = omega (arith, h.send_is, ap spent ss, window_sums_grow.spent_push (sent x) (WindowUpdate b), ap (granted_on 0) rs);
+      receive_is = omega (arith, h.receive_is, ap (granted_on 0) ss, window_sums_grow.granted_push 0 (sent x) (WindowUpdate b), if_test (b.stream == 0) (increment_of (WindowUpdate b)) (granted_on 0 (sent x)) (isnt_on k b.stream 0 on (λ f. not_zero f)), ap spent rs);
       initial_small = h.initial_small;
-      covered = λ id e. omega (arith, h.covered id (sym (live_same s.role s.limits x b k on id) ∙ e), ap (spent_on id) ss, windows_add.spent_on_push id (sent x) (WindowUpdate b), plus_if_zero (spent_on id (sent x)) (b.stream == id), ap (granted_on id) rs);
-      within = λ id e. omega (arith, h.within id (sym (live_same s.role s.limits x b k on id) ∙ e), ap (spent_on id) rs, ap (granted_on id) ss, windows_add.granted_push id (sent x) (WindowUpdate b));
+      covered = λ id e. omega (arith, h.covered id (sym (live_same s.role s.limits x b k on id) ∙ e), ap (spent_on id) ss, window_sums_grow.spent_on_push id (sent x) (WindowUpdate b), plus_if_zero (spent_on id (sent x)) (b.stream == id), ap (granted_on id) rs);
+      within = λ id e. omega (arith, h.within id (sym (live_same s.role s.limits x b k on id) ∙ e), ap (spent_on id) rs, ap (granted_on id) ss, window_sums_grow.granted_push id (sent x) (WindowUpdate b));
       untouched = λ id lt e. record {
         as_new = other_same s.role s.limits x b k on id (λ f. omega (arith, lt, low, h.highest_is, f)) ∙ (h.untouched id lt e).as_new;
         no_reset = no_reset s.role s.limits x b k on id ∙ (h.untouched id lt e).no_reset;
@@ -164,11 +164,11 @@ credits_all s x n b h on inc =
       started_is = h.started_is ∙ ap (λ (fs : List Frame). not (length fs == 0)) (sym rs);
       block_is = h.block_is ∙ ap (λ (fs : List Frame). option_map (λ (c : Block). (c.stream, c.last)) (open_block fs)) (sym rs);
       initial_is = h.initial_is ∙ ap initial_window (sym rs);
-      send_is = omega (arith, h.send_is, ap spent ss, windows_add.spent_push (sent x) (WindowUpdate b), ap (granted_on 0) rs);
-      receive_is = omega (arith, h.receive_is, inc, ap (granted_on 0) ss, windows_add.granted_push 0 (sent x) (WindowUpdate b), when_test (b.stream == 0) (increment_of (WindowUpdate b)) (granted_on 0 (sent x)) (ap (λ (m : ℕ). m == 0) on), ap spent rs);
+      send_is = omega (arith, h.send_is, ap spent ss, window_sums_grow.spent_push (sent x) (WindowUpdate b), ap (granted_on 0) rs);
+      receive_is = omega (arith, h.receive_is, inc, ap (granted_on 0) ss, window_sums_grow.granted_push 0 (sent x) (WindowUpdate b), when_test (b.stream == 0) (increment_of (WindowUpdate b)) (granted_on 0 (sent x)) (ap (λ (m : ℕ). m == 0) on), ap spent rs);
       initial_small = h.initial_small;
-      covered = λ id e. omega (arith, h.covered id (sym (live_same s.role s.limits x b 0 on id) ∙ e), ap (spent_on id) ss, windows_add.spent_on_push id (sent x) (WindowUpdate b), plus_if_zero (spent_on id (sent x)) (b.stream == id), ap (granted_on id) rs);
-      within = λ id e. omega (arith, h.within id (sym (live_same s.role s.limits x b 0 on id) ∙ e), ap (spent_on id) rs, ap (granted_on id) ss, windows_add.granted_push id (sent x) (WindowUpdate b));
+      covered = λ id e. omega (arith, h.covered id (sym (live_same s.role s.limits x b 0 on id) ∙ e), ap (spent_on id) ss, window_sums_grow.spent_on_push id (sent x) (WindowUpdate b), plus_if_zero (spent_on id (sent x)) (b.stream == id), ap (granted_on id) rs);
+      within = λ id e. omega (arith, h.within id (sym (live_same s.role s.limits x b 0 on id) ∙ e), ap (spent_on id) rs, ap (granted_on id) ss, window_sums_grow.granted_push id (sent x) (WindowUpdate b));
       untouched = λ id lt e. record {
         as_new = other_same s.role s.limits x b 0 on id (odd_not_zero id e) ∙ (h.untouched id lt e).as_new;
         no_reset = no_reset s.role s.limits x b 0 on id ∙ (h.untouched id lt e).no_reset;

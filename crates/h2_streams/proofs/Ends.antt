@@ -9,10 +9,10 @@ use Rattle.h2_exchange.specs.Exchange.{Step, Sent, received, sent}
 use Rattle.h2_exchange.specs.Frames.{has_end_stream}
 use Rattle.h2_exchange.specs.Streams.{of_client, highest, begun, is_begun, is_live, is_open, is_over, is_reset, is_ended_by, has_head, live}
 use Rattle.h2_exchange.specs.Windows.{initial_window, granted_on, spent_on, spent as all_spent}
-use Rattle.h2_exchange.proofs.Steps.{received_sent, sent_push, windows_add, begun_within}
+use Rattle.h2_exchange.proofs.Steps.{received_sent, sent_push, window_sums_grow, begun_within}
 use Rattle.h2_streams.specs.declared.live.Stream.{Stream}
 use Rattle.h2_streams.specs.Live.{is_stream, replaced, without}
-use Rattle.h2_streams.specs.Set.{Set, at, dropped, ended_here, finished, spent, room_of}
+use Rattle.h2_streams.specs.Set.{Set, at, dropped, closed_local, finished, spent, room_of}
 use Rattle.h2_streams.specs.Stands.{stream_at, StandsFor, is_on}
 use Rattle.h2_streams.proofs.Lists.{replaced_is, without_is, self_eq, by_number}
 use Rattle.h2_streams.proofs.SentFrames.{or_false, nothing_new, highest_same, reset_sent, isnt_on}
@@ -88,7 +88,7 @@ ends_with_data s x k b h open-here on fits end = by (is_ended_by (received x) k)
     is_k = self_eq k
 
     ended : Stream
-    ended = record less { is_ended_here = true }
+    ended = record less { is_closed_local = true }
 
     left : List Stream → Set
     left list = record s { live = list; send = s.send - n }
@@ -96,12 +96,12 @@ ends_with_data s x k b h open-here on fits end = by (is_ended_by (received x) k)
     again : at k (left (replaced k less s.live)) ≡ Some less
     again = found_again k less old s.live is_k found
 
-    choice : (t : Bool) → less.is_ended_there ≡ t → ended_here k (left (replaced k less s.live)) (Some less) ≡ left (if t then without k (replaced k less s.live) else replaced k ended (replaced k less s.live))
+    choice : (t : Bool) → less.is_closed_remote ≡ t → closed_local k (left (replaced k less s.live)) (Some less) ≡ left (if t then without k (replaced k less s.live) else replaced k ended (replaced k less s.live))
     choice true e = ap (λ (z : Bool). if z then dropped k (left (replaced k less s.live)) else left (replaced k ended (replaced k less s.live))) e
     choice false e = ap (λ (z : Bool). if z then dropped k (left (replaced k less s.live)) else left (replaced k ended (replaced k less s.live))) e
 
     finished_is : (t : Bool) → is_ended_by (received x) k ≡ t → finished k (spent k n s) ≡ left (if t then without k (replaced k less s.live) else replaced k ended (replaced k less s.live))
-    finished_is t e = ap (finished k) (spent_live s k n old found) ∙ ap (ended_here k (left (replaced k less s.live))) again ∙ choice t e
+    finished_is t e = ap (finished k) (spent_live s k n old found) ∙ ap (closed_local k (left (replaced k less s.live))) again ∙ choice t e
 
     alive : is_live s.role x k ≡ true
     alive = front_true (is_live s.role x k) (not (is_ended_by (sent x) k)) open-here
@@ -113,7 +113,7 @@ ends_with_data s x k b h open-here on fits end = by (is_ended_by (received x) k)
     room = room_when s old n (back_true (is_live s.role x k) (is_ended_by (sent x) k) open-here) (subst (λ (o : Option Stream). n ≤ room_of s o) found fits)
 
     more : (id : ℕ) → spent_on id (sent after) ≡ spent_on id (sent x) + (if b.stream == id then length b.payload else 0)
-    more id = ap (spent_on id) ss ∙ windows_add.spent_on_push id (sent x) (Content b)
+    more id = ap (spent_on id) ss ∙ window_sums_grow.spent_on_push id (sent x) (Content b)
 
     covered : (id : ℕ) → is_live s.role after id ≡ true → spent_on id (sent after) < 2147483648 + granted_on id (received after)
     covered id e =
@@ -132,11 +132,11 @@ ends_with_data s x k b h open-here on fits end = by (is_ended_by (received x) k)
       started_is = h.started_is ∙ ap (λ (fs : List Frame). not (length fs == 0)) (sym rs);
       block_is = h.block_is ∙ ap (λ (fs : List Frame). option_map (λ (c : Block). (c.stream, c.last)) (open_block fs)) (sym rs);
       initial_is = h.initial_is ∙ ap initial_window (sym rs);
-      send_is = omega (arith, h.send_is, room, ap all_spent ss, windows_add.spent_push (sent x) (Content b), ap (granted_on 0) rs);
-      receive_is = omega (arith, h.receive_is, ap (granted_on 0) ss, windows_add.granted_push 0 (sent x) (Content b), ap all_spent rs);
+      send_is = omega (arith, h.send_is, room, ap all_spent ss, window_sums_grow.spent_push (sent x) (Content b), ap (granted_on 0) rs);
+      receive_is = omega (arith, h.receive_is, ap (granted_on 0) ss, window_sums_grow.granted_push 0 (sent x) (Content b), ap all_spent rs);
       initial_small = h.initial_small;
       covered = covered;
-      within = λ id e. omega (arith, h.within id (was_live id e), ap (spent_on id) rs, ap (granted_on id) ss, windows_add.granted_push id (sent x) (Content b));
+      within = λ id e. omega (arith, h.within id (was_live id e), ap (spent_on id) rs, ap (granted_on id) ss, window_sums_grow.granted_push id (sent x) (Content b));
       untouched = λ id lt e. record {
         as_new = other_same s.role s.limits x b k on id (λ f. omega (arith, lt, low, h.highest_is, f)) ∙ (h.untouched id lt e).as_new;
         no_reset = reset_sent x (Content b) id ∙ or_false (is_reset x id) false refl ∙ (h.untouched id lt e).no_reset;
@@ -163,7 +163,7 @@ ends_with_data s x k b h open-here on fits end = by (is_ended_by (received x) k)
         ∙ ap (λ (z : Bool). is_begun s.role x k && not (is_reset x k || z && is_ended_by (sent x) k)) (sym e)
 
     roomy : Bool → ℕ → Stream
-    roomy e r = record { id = k; is_ended_here = e; is_ended_there = is_ended_by (received x) k; has_head = has_head (received x) k; room = r; receive = s.limits.window + granted_on k (sent x) - spent_on k (received x) }
+    roomy e r = record { id = k; is_closed_local = e; is_closed_remote = is_ended_by (received x) k; has_head = has_head (received x) k; room = r; receive = s.limits.window + granted_on k (sent x) - spent_on k (received x) }
 
     taken : (whole used m : ℕ) → whole - (used + m) ≡ whole - used - m
     taken whole used m = omega arith

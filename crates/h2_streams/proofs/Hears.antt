@@ -19,11 +19,11 @@ use Rattle.h2_exchange.specs.Frames.{stream_of, payload_of, is_data, is_headers,
 use Rattle.h2_exchange.specs.Rules.{is_client, setting_error, settings_error, value_error, breaks_block_on}
 use Rattle.h2_exchange.specs.Streams.{of_client, highest, is_odd, begun, is_begun, is_over, is_live, is_reset, is_ended_by, has_head, live}
 use Rattle.h2_exchange.specs.Windows.{settings_of, settings_in, setting, initial_window, granted_on, spent_on, spent}
-use Rattle.h2_exchange.proofs.Steps.{received_push, received_sent, sent_received, sent_push, windows_add, blocks_add, begun_within}
-use Rattle.h2_streams.specs.declared.live.Fate.TheVariants.{Over, Alive}
+use Rattle.h2_exchange.proofs.Steps.{received_push, received_sent, sent_received, sent_push, window_sums_grow, header_blocks_grow, begun_within}
+use Rattle.h2_streams.specs.declared.live.StreamOutcome.TheVariants.{Over, Alive}
 use Rattle.h2_streams.specs.declared.live.Stream.{Stream}
-use Rattle.h2_streams.specs.Judging.{live_error_in}
-use Rattle.h2_streams.specs.Live.{settled}
+use Rattle.h2_streams.specs.ConnectionErrors.{live_error_in}
+use Rattle.h2_streams.specs.Live.{with_outcome}
 use Rattle.h2_streams.specs.Receiving as hear
 use Rattle.h2_streams.specs.Set.{Set}
 use Rattle.h2_streams.specs.Stands.{stream_at, StandsFor, IsUntouched, is_on}
@@ -108,7 +108,7 @@ fourth false false false false e p q r t u h = refl
 fits_stream : (s : Set) (f : Frame) (t : Stream) → live_error_in s f t ≡ None → counted f ≤ t.receive
 fits_stream s f t e =
     by (is_data f) refl
-    (fourth (is_priority f && not (payload_length f == 5)) (is_window_update f && increment_of f == 0) (is_window_update f && nat_lt 4294967295 (s.initial + t.room + increment_of f)) (is_data f && nat_lt t.receive (counted f)) (is_data f && t.is_ended_there)
+    (fourth (is_priority f && not (payload_length f == 5)) (is_window_update f && increment_of f == 0) (is_window_update f && nat_lt 4294967295 (s.initial + t.room + increment_of f)) (is_data f && nat_lt t.receive (counted f)) (is_data f && t.is_closed_remote)
     code.FRAME_SIZE_ERROR code.PROTOCOL_ERROR code.FLOW_CONTROL_ERROR code.FLOW_CONTROL_ERROR code.STREAM_CLOSED e)
   where
     by : (d : Bool) → is_data f ≡ d → (is_data f && nat_lt t.receive (counted f)) ≡ false → counted f ≤ t.receive
@@ -193,7 +193,7 @@ module _ (s : Set) (x : List Step) (f : Frame) (h : StandsFor s x) (sound : IsSo
       by false false p q e = absurd cc
 
   built : Bool → Bool → ℕ → ℕ → Stream
-  built ended head room receive = record { id = k; is_ended_here = is_ended_by (sent x) k; is_ended_there = ended; has_head = head; room = room; receive = receive }
+  built ended head room receive = record { id = k; is_closed_local = is_ended_by (sent x) k; is_closed_remote = ended; has_head = head; room = room; receive = receive }
 
   more_room : (granted used n : ℕ) → used < 2147483648 + granted → 2147483648 + granted - used + n ≡ 2147483648 + (granted + n) - used
   more_room granted used n lt = omega arith
@@ -257,13 +257,13 @@ module _ (s : Set) (x : List Step) (f : Frame) (h : StandsFor s x) (sound : IsSo
         ap (λ (b : Bool). if b then k else s.highest) (new_agrees s x f h sound) ∙ ap (λ (n : ℕ). if starts then k else n) h.highest_is
         ∙ sym (highest_heard s.role s.limits x f (whole_on s x f h sound)) ∙ sym t.greatest;
     started_is = not_empty (received x) f ∙ ap (λ (fs : List Frame). not (length fs == 0)) (sym t.hears);
-    block_is = open_agrees s x f h sound ∙ ap (option_map pair) (sym (blocks_add.open_push (received x) f)) ∙ ap (λ (fs : List Frame). option_map pair (open_block fs)) (sym t.hears);
+    block_is = open_agrees s x f h sound ∙ ap (option_map pair) (sym (header_blocks_grow.open_push (received x) f)) ∙ ap (λ (fs : List Frame). option_map pair (open_block fs)) (sym t.hears);
     initial_is = fold_initial ∙ ap initial_window (sym t.hears);
-    send_is = omega (arith, h.send_is, t.spends_all, granted_zero (is_window_update f) (k == 0) (increment_of f), ap (granted_on 0) t.hears, windows_add.granted_push 0 (received x) f);
-    receive_is = omega (arith, h.receive_is, no_less s.receive (counted f) sound.within, ap spent t.hears, windows_add.spent_push (received x) f, t.grants 0);
+    send_is = omega (arith, h.send_is, t.spends_all, granted_zero (is_window_update f) (k == 0) (increment_of f), ap (granted_on 0) t.hears, window_sums_grow.granted_push 0 (received x) f);
+    receive_is = omega (arith, h.receive_is, no_less s.receive (counted f) sound.within, ap spent t.hears, window_sums_grow.spent_push (received x) f, t.grants 0);
     initial_small = small_initial s.role s.initial f h.initial_small sound.value;
-    covered = λ id e. omega (arith, t.covered id e, t.spends id, ap (granted_on id) t.hears, windows_add.granted_push id (received x) f);
-    within = λ id e. omega (arith, t.within id e, t.grants id, ap (spent_on id) t.hears, windows_add.spent_on_push id (received x) f);
+    covered = λ id e. omega (arith, t.covered id e, t.spends id, ap (granted_on id) t.hears, window_sums_grow.granted_push id (received x) f);
+    within = λ id e. omega (arith, t.within id e, t.grants id, ap (spent_on id) t.hears, window_sums_grow.spent_on_push id (received x) f);
     untouched = λ id lt e. t.untouched id (subst (λ (b : Bool). (if b then k else s.highest) < id) (new_agrees s x f h sound) lt) e;
   }
 
@@ -271,7 +271,7 @@ module _ (s : Set) (x : List Step) (f : Frame) (h : StandsFor s x) (sound : IsSo
 
   block_other : (id : ℕ) → (id ≡ k → ⊥) → is_on id (open_block (received after)) ≡ false
   block_other id g =
-      ap (λ (fs : List Frame). is_on id (open_block fs)) rs ∙ ap (is_on id) (blocks_add.open_push (received x) f)
+      ap (λ (fs : List Frame). is_on id (open_block fs)) rs ∙ ap (is_on id) (header_blocks_grow.open_push (received x) f)
       ∙ not_on (left_open (open_block (received x)) f) k id (open_on (has_end_headers f) (block_with (open_block (received x)) f) k (part_on s x f h sound)) g
 
   low : (id : ℕ) → (if starts then k else s.highest) < id → s.highest < id
@@ -342,7 +342,7 @@ module _ (s : Set) (x : List Step) (f : Frame) (h : StandsFor s x) (sound : IsSo
           (omega (arith, ap (λ (b : Bool). if b then increment_of f else 0) quiet.no_update)) (omega (arith, quiet.no_count))
           ∙ was.as_new;
       no_reset = reset_heard s.role s.limits x f (whole_on s x f h sound) k ∙ or_false (is_reset x k) (is_rst_stream f && k == k) (ap (λ (b : Bool). b && k == k) quiet.no_reset) ∙ was.no_reset;
-      no_block = ap (λ (fs : List Frame). is_on k (open_block fs)) rs ∙ ap (is_on k) (blocks_add.open_push (received x) f) ∙ ap (is_on k) open_none;
+      no_block = ap (λ (fs : List Frame). is_on k (open_block fs)) rs ∙ ap (is_on k) (header_blocks_grow.open_push (received x) f) ∙ ap (is_on k) open_none;
     }
 
   untouched_after : (id : ℕ) → (if starts then k else s.highest) < id → is_odd id ≡ true → IsUntouched s.limits after id
@@ -353,11 +353,11 @@ module _ (s : Set) (x : List Step) (f : Frame) (h : StandsFor s x) (sound : IsSo
 
   -- ---- a frame that breaks no rule
 
-  fate_is : (fault : Option ErrorCode) (b : Bool) → hear.fault_in s f ≡ fault → (lives || starts) ≡ b → hear.live_behind s f ≡ settled starts k (hear.fate_on s f fault (if b then Some seen else None)) s.live
+  fate_is : (fault : Option ErrorCode) (b : Bool) → hear.fault_in s f ≡ fault → (lives || starts) ≡ b → hear.live_behind s f ≡ with_outcome starts k (hear.outcome_on s f fault (if b then Some seen else None)) s.live
   fate_is fault b e g =
-      ap (λ (n : Bool). settled n k (hear.fate_on s f (hear.fault_in s f) (hear.seen_in s f)) s.live) (new_agrees s x f h sound)
-      ∙ ap (λ (o : Option ErrorCode). settled starts k (hear.fate_on s f o (hear.seen_in s f)) s.live) e
-      ∙ ap (λ (o : Option Stream). settled starts k (hear.fate_on s f fault o) s.live) (seen_agrees s x f h sound ∙ ap (λ (c : Bool). if c then Some seen else None) g)
+      ap (λ (n : Bool). with_outcome n k (hear.outcome_on s f (hear.fault_in s f) (hear.seen_in s f)) s.live) (new_agrees s x f h sound)
+      ∙ ap (λ (o : Option ErrorCode). with_outcome starts k (hear.outcome_on s f o (hear.seen_in s f)) s.live) e
+      ∙ ap (λ (o : Option Stream). with_outcome starts k (hear.outcome_on s f fault o) s.live) (seen_agrees s x f h sound ∙ ap (λ (c : Bool). if c then Some seen else None) g)
 
   others_after : (id : ℕ) → (id ≡ k → ⊥) → (is_live s.role after id ≡ is_live s.role x id) × (stream_at s.limits after id ≡ stream_at s.limits x id)
   others_after id g = (live_other s.role s.limits x f (whole_on s x f h sound) id g, other_same s.role s.limits x f (whole_on s x f h sound) id g)
@@ -369,14 +369,14 @@ module _ (s : Set) (x : List Step) (f : Frame) (h : StandsFor s x) (sound : IsSo
       begun_after = begun_list s.role s.limits x f (whole_on s x f h sound)
 
       by_end : (lives || starts) ≡ true → (g : Bool) → (is_rst_stream f || (is_ended_by (received x) k || ends_by (received x) f) && is_ended_by (sent x) k) ≡ g →
-          settled starts k (if g then Over else Alive (hear.changed_in s f seen)) s.live ≡ map (stream_at s.limits after) (live s.role after)
+          with_outcome starts k (if g then Over else Alive (hear.changed_in s f seen)) s.live ≡ map (stream_at s.limits after) (live s.role after)
       by_end e true g = over_list s x f h sound after begun_after others_after (live_after e ∙ ap not g)
       by_end e false g = alive_list s x f h sound after begun_after others_after (hear.changed_in s f seen) e (live_after e ∙ ap not g) (changed_agrees e)
 
       by : (b : Bool) → (lives || starts) ≡ b → hear.live_behind s f ≡ map (stream_at s.limits after) (live s.role after)
       by true e =
           fate_is None true sane e
-          ∙ ap (λ (b : Bool). settled starts k (if is_rst_stream f || (is_ended_by (received x) k || b) && is_ended_by (sent x) k then Over else Alive (hear.changed_in s f seen)) s.live) (ends_agree s x f h sound)
+          ∙ ap (λ (b : Bool). with_outcome starts k (if is_rst_stream f || (is_ended_by (received x) k || b) && is_ended_by (sent x) k then Over else Alive (hear.changed_in s f seen)) s.live) (ends_agree s x f h sound)
           ∙ by_end e (is_rst_stream f || (is_ended_by (received x) k || ends_by (received x) f) && is_ended_by (sent x) k) refl
       by false e = fate_is None false sane e ∙ unseen_list s x f h sound after begun_after others_after e (dead_after e)
 
@@ -433,10 +433,10 @@ module _ (s : Set) (x : List Step) (f : Frame) (h : StandsFor s x) (sound : IsSo
     sends_now = sent_push after (RstStream b) ∙ ap (λ (fs : List Frame). fs ++ RstStream b ∷ []) (sent_received x f)
 
     no_grant : (id : ℕ) → granted_on id (sent ended) ≡ granted_on id (sent x)
-    no_grant id = omega (arith, ap (granted_on id) sends_now, windows_add.granted_push id (sent x) (RstStream b))
+    no_grant id = omega (arith, ap (granted_on id) sends_now, window_sums_grow.granted_push id (sent x) (RstStream b))
 
     no_spend : (id : ℕ) → spent_on id (sent ended) ≡ spent_on id (sent x)
-    no_spend id = omega (arith, ap (spent_on id) sends_now, windows_add.spent_on_push id (sent x) (RstStream b), Rattle.h2_streams.proofs.SentFrames.plus_if_zero (spent_on id (sent x)) (b.stream == id))
+    no_spend id = omega (arith, ap (spent_on id) sends_now, window_sums_grow.spent_on_push id (sent x) (RstStream b), Rattle.h2_streams.proofs.SentFrames.plus_if_zero (spent_on id (sent x)) (b.stream == id))
 
     low_here : (lives || starts) ≡ true → (if starts then k else s.highest) < k → ⊥
     low_here e lt = by lives starts refl refl e lt
@@ -473,7 +473,7 @@ module _ (s : Set) (x : List Step) (f : Frame) (h : StandsFor s x) (sound : IsSo
               hears = hears_now;
               grants = no_grant;
               spends = no_spend;
-              spends_all = omega (arith, ap spent sends_now, windows_add.spent_push (sent x) (RstStream b));
+              spends_all = omega (arith, ap spent sends_now, window_sums_grow.spent_push (sent x) (RstStream b));
               greatest = highest_same s.role after (RstStream b) refl;
               live_is =
                   fate_is (Some why) true fault e

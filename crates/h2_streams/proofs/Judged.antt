@@ -19,7 +19,7 @@ use Rattle.h2_exchange.specs.Windows.{settings_of, granted_on, spent_on, spent, 
 use Rattle.h2_streams.specs.Live.{is_raised, is_raising}
 use Rattle.h2_streams.specs.Set.{Set}
 use Rattle.h2_exchange.specs.StreamErrors.{live_error, overfills_stream}
-use Rattle.h2_streams.specs.Judging.{shape_error_in, window_error_in, frame_error_in, live_error_in}
+use Rattle.h2_streams.specs.ConnectionErrors.{shape_error_in, window_error_in, frame_error_in, live_error_in}
 use Rattle.h2_streams.specs.Stands.{stream_at, StandsFor}
 
 -- ---- a WINDOW_UPDATE that no rule on its shape bars has four bytes
@@ -145,7 +145,7 @@ five_rules a b c d e = first_broken ((a, code.FRAME_SIZE_ERROR) ∷ (b, code.PRO
 pub live_says : (s : Set) (x : List Step) (f : Frame) → StandsFor s x → is_live s.role x (stream_of f) ≡ true → live_error_in s f (stream_at s.limits x (stream_of f)) ≡ live_error s.limits x f
 unfolding five_rules
 live_says s x f h alive =
-    ap (λ (c : Bool). five_rules (is_priority f && not (payload_length f == 5)) (is_window_update f && increment_of f == 0) (is_window_update f && c) (is_data f && nat_lt (stream_at s.limits x (stream_of f)).receive (counted f)) (is_data f && (stream_at s.limits x (stream_of f)).is_ended_there))
+    ap (λ (c : Bool). five_rules (is_priority f && not (payload_length f == 5)) (is_window_update f && increment_of f == 0) (is_window_update f && c) (is_data f && nat_lt (stream_at s.limits x (stream_of f)).receive (counted f)) (is_data f && (stream_at s.limits x (stream_of f)).is_closed_remote))
     (ap (λ (i : ℕ). nat_lt 4294967295 (i + (stream_at s.limits x (stream_of f)).room + increment_of f)) h.initial_is ∙ overfills_one (initial_window (received x)) (spent_on (stream_of f) (sent x)) (granted_on (stream_of f) (received x)) (increment_of f) (h.covered (stream_of f) alive))
-    ∙ ap (λ (d : Bool). five_rules (is_priority f && not (payload_length f == 5)) (is_window_update f && increment_of f == 0) (is_window_update f && overfills_stream x f) (is_data f && d) (is_data f && (stream_at s.limits x (stream_of f)).is_ended_there))
+    ∙ ap (λ (d : Bool). five_rules (is_priority f && not (payload_length f == 5)) (is_window_update f && increment_of f == 0) (is_window_update f && overfills_stream x f) (is_data f && d) (is_data f && (stream_at s.limits x (stream_of f)).is_closed_remote))
     (exceeds_one s.limits.window (spent_on (stream_of f) (received x)) (granted_on (stream_of f) (sent x)) (counted f) (h.within (stream_of f) alive))

@@ -14,12 +14,12 @@ use Rattle.h2_exchange.specs.Exchange.{first_broken}
 use Rattle.h2_exchange.specs.Frames.{stream_of, is_headers, is_rst_stream, has_end_stream, has_end_headers}
 use Rattle.h2_exchange.specs.Rules.{is_client, breaks_block_on}
 use Rattle.h2_exchange.specs.Streams.{is_odd}
-use Rattle.h2_streams.specs.declared.live.Fate.{Fate}
-use Rattle.h2_streams.specs.declared.live.Fate.TheVariants.{Unseen, Over, Alive}
+use Rattle.h2_streams.specs.declared.live.StreamOutcome.{StreamOutcome}
+use Rattle.h2_streams.specs.declared.live.StreamOutcome.TheVariants.{NoStream, Over, Alive}
 use Rattle.h2_streams.specs.declared.live.Stream.{Stream}
-use Rattle.h2_streams.specs.Live.{is_stream, replaced, without, settled, is_headless, is_waiting, HasPlace}
-use Rattle.h2_streams.specs.Judging.{frame_error_in, live_error_in}
-use Rattle.h2_streams.specs.Receiving.{block_with, completed_by, left_open, is_new_in, seen_in, is_full_in, block_error_in, fault_on, fault_in, changed_in, left_as, fate_on, live_behind}
+use Rattle.h2_streams.specs.Live.{is_stream, replaced, without, with_outcome, is_headless, is_waiting, HasPlace}
+use Rattle.h2_streams.specs.ConnectionErrors.{frame_error_in, live_error_in}
+use Rattle.h2_streams.specs.Receiving.{block_with, completed_by, left_open, is_new_in, seen_in, is_full_in, block_error_in, fault_on, fault_in, changed_in, left_as, outcome_on, live_behind}
 use Rattle.h2_streams.specs.Set.{Set, at, new_stream}
 use Rattle.h2_streams.proofs.Lists.{eqb_is, self_eq}
 use Rattle.h2_streams.proofs.Places.{without_fewer, without_found, found_id, waits_replaced}
@@ -28,8 +28,8 @@ use Rattle.h2_streams.proofs.Sound.{IsSound, is_sound}
 no_truth : true ≡ false → ⊥
 no_truth e = cc
 
-settled_fewer : (k : ℕ) (fate : Fate) (xs : List Stream) → length (settled false k fate xs) ≤ length xs
-settled_fewer k Unseen xs = omega arith
+settled_fewer : (k : ℕ) (outcome : StreamOutcome) (xs : List Stream) → length (with_outcome false k outcome xs) ≤ length xs
+settled_fewer k NoStream xs = omega arith
 settled_fewer k Over xs = without_fewer k xs
 settled_fewer k (Alive t) xs = omega (arith, length-map xs (λ (s : Stream). if is_stream k s then t else s))
 
@@ -119,17 +119,17 @@ module _ (s : Set) (f : Frame) (places : ℕ) (server : s.role ≡ Server) (stre
 
   -- a stream that was live before
   abbrev Old : Type 0
-  Old = live_behind s f ≡ settled false k (fate_on s f (fault_on s f (at k s)) (at k s)) s.live
+  Old = live_behind s f ≡ with_outcome false k (outcome_on s f (fault_on s f (at k s)) (at k s)) s.live
 
   old_is : is_new_in s f ≡ false → Old
-  old_is e = ap (λ (n : Bool). settled n k (fate_on s f (fault_on s f (if n then Some (new_stream s.limits k) else at k s)) (if n then Some (new_stream s.limits k) else at k s)) s.live) e
+  old_is e = ap (λ (n : Bool). with_outcome n k (outcome_on s f (fault_on s f (if n then Some (new_stream s.limits k) else at k s)) (if n then Some (new_stream s.limits k) else at k s)) s.live) e
 
-  new_is : is_new_in s f ≡ true → live_behind s f ≡ settled true k (fate_on s f (fault_on s f (Some (new_stream s.limits k))) (Some (new_stream s.limits k))) s.live
-  new_is e = ap (λ (n : Bool). settled n k (fate_on s f (fault_on s f (if n then Some (new_stream s.limits k) else at k s)) (if n then Some (new_stream s.limits k) else at k s)) s.live) e
+  new_is : is_new_in s f ≡ true → live_behind s f ≡ with_outcome true k (outcome_on s f (fault_on s f (Some (new_stream s.limits k))) (Some (new_stream s.limits k))) s.live
+  new_is e = ap (λ (n : Bool). with_outcome n k (outcome_on s f (fault_on s f (if n then Some (new_stream s.limits k) else at k s)) (if n then Some (new_stream s.limits k) else at k s)) s.live) e
 
   has_room_here : (t : Stream) (block : ℕ × Bool) → fault_on s f (Some t) ≡ None → completed_by s.block f ≡ Some block → t.has_head ≡ false → is_full_in s f ≡ false
   has_room_here t block e c g =
-      has_room t.has_head block.1 (is_full_in s f) code.STREAM_CLOSED code.PROTOCOL_ERROR code.REFUSED_STREAM t.is_ended_there
+      has_room t.has_head block.1 (is_full_in s f) code.STREAM_CLOSED code.PROTOCOL_ERROR code.REFUSED_STREAM t.is_closed_remote
       (ap (block_error_in s f t) (sym c) ∙ or_none (live_error_in s f t) (block_error_in s f t (completed_by s.block f)) e) g
 
   same_head : (t : Stream) → completed_by s.block f ≡ None → (changed_in s f t).has_head ≡ t.has_head
@@ -150,7 +150,7 @@ module _ (s : Set) (f : Frame) (places : ℕ) (server : s.role ≡ Server) (stre
     opened : block_with s.block f ≡ Some (k, has_end_stream f)
     opened = ap (λ (o : Option (ℕ × Bool)). block_with o f) block_none ∙ begins_block f facts.0
 
-    push : (u : Stream) → live_behind s f ≡ settled true k (Alive u) s.live → u.id ≡ k → u.has_head ≡ (t.has_head || is_some (completed_by s.block f)) → fault_on s f (Some t) ≡ None → Kept
+    push : (u : Stream) → live_behind s f ≡ with_outcome true k (Alive u) s.live → u.id ≡ k → u.has_head ≡ (t.has_head || is_some (completed_by s.block f)) → fault_on s f (Some t) ≡ None → Kept
     push u is id_is head_is sound = by (has_end_headers f) refl
       where
         long : length (live_behind s f) ≡ length s.live + 1
@@ -172,20 +172,20 @@ module _ (s : Set) (f : Frame) (places : ℕ) (server : s.role ≡ Server) (stre
     new_kept = by (fault_on s f (Some t)) refl
       where
         by : (fault : Option ErrorCode) → fault_on s f (Some t) ≡ fault → Kept
-        by (Some why) e = λ w. omega (arith, lt, ap length (new_is is_new ∙ ap (λ (o : Option ErrorCode). settled true k (fate_on s f o (Some t)) s.live) e))
-        by None e = by_end (is_rst_stream f || (changed_in s f t).is_ended_there && (changed_in s f t).is_ended_here) refl
+        by (Some why) e = λ w. omega (arith, lt, ap length (new_is is_new ∙ ap (λ (o : Option ErrorCode). with_outcome true k (outcome_on s f o (Some t)) s.live) e))
+        by None e = by_end (is_rst_stream f || (changed_in s f t).is_closed_remote && (changed_in s f t).is_closed_local) refl
           where
-            is : live_behind s f ≡ settled true k (left_as f (changed_in s f t)) s.live
-            is = new_is is_new ∙ ap (λ (o : Option ErrorCode). settled true k (fate_on s f o (Some t)) s.live) e
+            is : live_behind s f ≡ with_outcome true k (left_as f (changed_in s f t)) s.live
+            is = new_is is_new ∙ ap (λ (o : Option ErrorCode). with_outcome true k (outcome_on s f o (Some t)) s.live) e
 
-            by_end : (b : Bool) → (is_rst_stream f || (changed_in s f t).is_ended_there && (changed_in s f t).is_ended_here) ≡ b → Kept
-            by_end true g = λ w. omega (arith, lt, ap length (is ∙ ap (λ (b : Bool). settled true k (if b then Over else Alive (changed_in s f t)) s.live) g))
-            by_end false g = push (changed_in s f t) (is ∙ ap (λ (b : Bool). settled true k (if b then Over else Alive (changed_in s f t)) s.live) g) refl refl e
+            by_end : (b : Bool) → (is_rst_stream f || (changed_in s f t).is_closed_remote && (changed_in s f t).is_closed_local) ≡ b → Kept
+            by_end true g = λ w. omega (arith, lt, ap length (is ∙ ap (λ (b : Bool). with_outcome true k (if b then Over else Alive (changed_in s f t)) s.live) g))
+            by_end false g = push (changed_in s f t) (is ∙ ap (λ (b : Bool). with_outcome true k (if b then Over else Alive (changed_in s f t)) s.live) g) refl refl e
 
   -- a stream that was live, where the frame goes on with a header block
-  module _ (block : ℕ × Bool) (block_some : s.block ≡ Some block) (going : breaks_block_on (Some block.0) f ≡ false) (h : is_headless (find (is_stream block.0) s.live) ≡ false → length s.live < places) where
+  module _ (block : ℕ × Bool) (block_some : s.block ≡ Some block) (before_stop : breaks_block_on (Some block.0) f ≡ false) (h : is_headless (find (is_stream block.0) s.live) ≡ false → length s.live < places) where
     going_facts : (is_headers f ≡ false) × ((k ≡ block.0) × (block_with (Some block) f ≡ Some block))
-    going_facts = goes_on block f going
+    going_facts = goes_on block f before_stop
 
     h_k : is_headless (at k s) ≡ false → length s.live < places
     h_k e = h (ap (λ (n : ℕ). is_headless (find (is_stream n) s.live)) (sym going_facts.1.0) ∙ e)
@@ -197,14 +197,14 @@ module _ (s : Set) (f : Frame) (places : ℕ) (server : s.role ≡ Server) (stre
     same_block = ap (λ (o : Option (ℕ × Bool)). block_with o f) block_some ∙ going_facts.1.1
 
     fewer : length s.live < places → Kept
-    fewer lt = λ w. omega (arith, lt, ap length old, settled_fewer k (fate_on s f (fault_on s f (at k s)) (at k s)) s.live)
+    fewer lt = λ w. omega (arith, lt, ap length old, settled_fewer k (outcome_on s f (fault_on s f (at k s)) (at k s)) s.live)
 
     over : (t : Stream) → at k s ≡ Some t → live_behind s f ≡ without k s.live → Kept
     over t found is = λ w. omega (arith, le, ap length is, without_found k t s.live found)
 
     module _ (t : Stream) (found : at k s ≡ Some t) where
-      is : live_behind s f ≡ settled false k (fate_on s f (fault_on s f (Some t)) (Some t)) s.live
-      is = old ∙ ap (λ (o : Option Stream). settled false k (fate_on s f (fault_on s f o) o) s.live) found
+      is : live_behind s f ≡ with_outcome false k (outcome_on s f (fault_on s f (Some t)) (Some t)) s.live
+      is = old ∙ ap (λ (o : Option Stream). with_outcome false k (outcome_on s f (fault_on s f o) o) s.live) found
 
       -- the block goes on: the stream waits as before
       waits : has_end_headers f ≡ false → (u : Stream) → u.id ≡ k → u.has_head ≡ t.has_head → live_behind s f ≡ replaced k u s.live → Kept
@@ -231,18 +231,18 @@ module _ (s : Set) (f : Frame) (places : ℕ) (server : s.role ≡ Server) (stre
       found_kept = by (fault_on s f (Some t)) refl (has_end_headers f) refl
         where
           by : (fault : Option ErrorCode) → fault_on s f (Some t) ≡ fault → (c : Bool) → has_end_headers f ≡ c → Kept
-          by (Some why) e c g = over t found (is ∙ ap (λ (o : Option ErrorCode). settled false k (fate_on s f o (Some t)) s.live) e)
+          by (Some why) e c g = over t found (is ∙ ap (λ (o : Option ErrorCode). with_outcome false k (outcome_on s f o (Some t)) s.live) e)
           by None e true g = whole g e
-          by None e false g = by_end (is_rst_stream f || (changed_in s f t).is_ended_there && (changed_in s f t).is_ended_here) refl
+          by None e false g = by_end (is_rst_stream f || (changed_in s f t).is_closed_remote && (changed_in s f t).is_closed_local) refl
             where
-              is_left : live_behind s f ≡ settled false k (left_as f (changed_in s f t)) s.live
-              is_left = is ∙ ap (λ (o : Option ErrorCode). settled false k (fate_on s f o (Some t)) s.live) e
+              is_left : live_behind s f ≡ with_outcome false k (left_as f (changed_in s f t)) s.live
+              is_left = is ∙ ap (λ (o : Option ErrorCode). with_outcome false k (outcome_on s f o (Some t)) s.live) e
 
-              by_end : (b : Bool) → (is_rst_stream f || (changed_in s f t).is_ended_there && (changed_in s f t).is_ended_here) ≡ b → Kept
-              by_end true q = over t found (is_left ∙ ap (λ (b : Bool). settled false k (if b then Over else Alive (changed_in s f t)) s.live) q)
+              by_end : (b : Bool) → (is_rst_stream f || (changed_in s f t).is_closed_remote && (changed_in s f t).is_closed_local) ≡ b → Kept
+              by_end true q = over t found (is_left ∙ ap (λ (b : Bool). with_outcome false k (if b then Over else Alive (changed_in s f t)) s.live) q)
               by_end false q =
                   waits g (changed_in s f t) (found_id k t s.live found) (same_head t (ap (λ (b : Bool). if b then block_with s.block f else None) g))
-                  (is_left ∙ ap (λ (b : Bool). settled false k (if b then Over else Alive (changed_in s f t)) s.live) q)
+                  (is_left ∙ ap (λ (b : Bool). with_outcome false k (if b then Over else Alive (changed_in s f t)) s.live) q)
 
     goes_kept : Kept
     goes_kept = by (at k s) refl
@@ -262,7 +262,7 @@ module _ (s : Set) (f : Frame) (places : ℕ) (server : s.role ≡ Server) (stre
 
           by_new : (n : Bool) → is_new_in s f ≡ n → Kept
           by_new true n = new_kept e n lt
-          by_new false n = λ w. omega (arith, lt, ap length (old_is n), settled_fewer k (fate_on s f (fault_on s f (at k s)) (at k s)) s.live)
+          by_new false n = λ w. omega (arith, lt, ap length (old_is n), settled_fewer k (outcome_on s f (fault_on s f (at k s)) (at k s)) s.live)
       by (Some block) e = goes_kept block e (ap (λ (o : Option (ℕ × Bool)). breaks_block_on (option_map (λ (b : ℕ × Bool). b.0) o) f) (sym e) ∙ sound) (λ w. h (ap (λ (o : Option (ℕ × Bool)). is_waiting o s.live) e ∙ w))
 
 pub keeps_place : (s : Set) (f : Frame) (places : ℕ) → IsSound s f → length s.live ≤ places → HasPlace s.role s.limits.streams places s.block s.live → HasPlace s.role s.limits.streams places (left_open s.block f) (live_behind s f)
@@ -291,10 +291,10 @@ has_place s f places sound h new = by s.role refl h
         by_block (Some block) g = absurd (clash (is_headers f) facts.0 (goes_on block f (ap (λ (o : Option (ℕ × Bool)). breaks_block_on (option_map (λ (b : ℕ × Bool). b.0) o) f) (sym g) ∙ sound.block)).0)
 
 -- the same, of what a call computed
-pub keeps_here : (s t : Set) (f : Frame) (places id : ℕ) (new : Bool) (fate : Fate) (fault : Option ErrorCode) (seen : Option Stream) (block : Option (ℕ × Bool)) (live : List Stream) →
-    s ≡ t → frame_error_in t f ≡ None → id ≡ stream_of f → new ≡ is_new_in t f → seen ≡ seen_in t f → fault ≡ fault_on t f seen → fate ≡ fate_on t f fault seen → block ≡ left_open s.block f → live ≡ settled new id fate s.live →
+pub keeps_here : (s t : Set) (f : Frame) (places id : ℕ) (new : Bool) (outcome : StreamOutcome) (fault : Option ErrorCode) (seen : Option Stream) (block : Option (ℕ × Bool)) (live : List Stream) →
+    s ≡ t → frame_error_in t f ≡ None → id ≡ stream_of f → new ≡ is_new_in t f → seen ≡ seen_in t f → fault ≡ fault_on t f seen → outcome ≡ outcome_on t f fault seen → block ≡ left_open s.block f → live ≡ with_outcome new id outcome s.live →
     length s.live ≤ places → HasPlace s.role s.limits.streams places s.block s.live → HasPlace s.role s.limits.streams places block live
-keeps_here s t f places id new fate fault seen block live same sound i n g e a b l le h =
+keeps_here s t f places id new outcome fault seen block live same sound i n g e a b l le h =
     subst (λ (o : Option (ℕ × Bool)). HasPlace s.role s.limits.streams places o live) (sym b) (
     subst (λ (ls : List Stream). HasPlace s.role s.limits.streams places (left_open s.block f) ls) (sym live_is) (keeps_place s f places (is_sound s f (ap (λ (u : Set). frame_error_in u f) same ∙ sound)) le h)
     )
@@ -302,10 +302,10 @@ keeps_here s t f places id new fate fault seen block live same sound i n g e a b
     fault_is : fault ≡ fault_in t f
     fault_is = e ∙ ap (fault_on t f) g
 
-    fate_is : fate ≡ fate_on t f (fault_in t f) (seen_in t f)
-    fate_is = a ∙ ap (λ (o : Option ErrorCode). fate_on t f o seen) fault_is ∙ ap (fate_on t f (fault_in t f)) g
+    fate_is : outcome ≡ outcome_on t f (fault_in t f) (seen_in t f)
+    fate_is = a ∙ ap (λ (o : Option ErrorCode). outcome_on t f o seen) fault_is ∙ ap (outcome_on t f (fault_in t f)) g
 
     live_is : live ≡ live_behind s f
     live_is =
-        l ∙ ap (λ (m : ℕ). settled new m fate s.live) i ∙ ap (λ (b : Bool). settled b (stream_of f) fate s.live) n ∙ ap (λ (q : Fate). settled (is_new_in t f) (stream_of f) q s.live) fate_is
-        ∙ ap (λ (u : Set). settled (is_new_in u f) (stream_of f) (fate_on u f (fault_in u f) (seen_in u f)) s.live) (sym same)
+        l ∙ ap (λ (m : ℕ). with_outcome new m outcome s.live) i ∙ ap (λ (b : Bool). with_outcome b (stream_of f) outcome s.live) n ∙ ap (λ (q : StreamOutcome). with_outcome (is_new_in t f) (stream_of f) q s.live) fate_is
+        ∙ ap (λ (u : Set). with_outcome (is_new_in u f) (stream_of f) (outcome_on u f (fault_in u f) (seen_in u f)) s.live) (sym same)

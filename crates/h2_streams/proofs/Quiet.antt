@@ -9,9 +9,9 @@ use Rattle.h2_exchange.specs.Exchange.{Step, Sent, received, sent}
 use Rattle.h2_exchange.specs.Frames.{stream_of, is_window_update, increment_of, counted}
 use Rattle.h2_exchange.specs.Streams.{of_client, highest, begun, is_begun, is_live, is_reset, is_ended_by}
 use Rattle.h2_exchange.specs.Windows.{initial_window, granted_on, spent_on, spent}
-use Rattle.h2_exchange.proofs.Steps.{received_sent, sent_push, windows_add}
+use Rattle.h2_exchange.proofs.Steps.{received_sent, sent_push, window_sums_grow}
 use Rattle.h2_streams.specs.declared.live.Stream.{Stream}
-use Rattle.h2_streams.specs.Laws.{ControlsAreQuiet}
+use Rattle.h2_streams.specs.Laws.{ControlFramesChangeNothing}
 use Rattle.h2_streams.specs.Set.{Set}
 use Rattle.h2_streams.specs.Stands.{stream_at, StandsFor, is_on}
 use Rattle.h2_streams.proofs.SentFrames.{or_false, plus_if_zero, nothing_new, begun_same, highest_same, stream_sent, reset_sent, live_by}
@@ -46,11 +46,11 @@ module _ (s : Set) (x : List Step) (f : Frame) (stands : StandsFor s x) where
         started_is = stands.started_is ∙ ap (λ (fs : List Frame). not (length fs == 0)) (sym rs);
         block_is = stands.block_is ∙ ap (λ (fs : List Frame). option_map (λ (c : Block). (c.stream, c.last)) (open_block fs)) (sym rs);
         initial_is = stands.initial_is ∙ ap initial_window (sym rs);
-        send_is = omega (arith, stands.send_is, ap spent ss, windows_add.spent_push (sent x) f, t.empty, ap (granted_on 0) rs);
-        receive_is = omega (arith, stands.receive_is, ap (granted_on 0) ss, windows_add.granted_push 0 (sent x) f, no_update 0, ap spent rs);
+        send_is = omega (arith, stands.send_is, ap spent ss, window_sums_grow.spent_push (sent x) f, t.empty, ap (granted_on 0) rs);
+        receive_is = omega (arith, stands.receive_is, ap (granted_on 0) ss, window_sums_grow.granted_push 0 (sent x) f, no_update 0, ap spent rs);
         initial_small = stands.initial_small;
-        covered = λ id e. omega (arith, stands.covered id (sym (live_same id) ∙ e), ap (spent_on id) ss, windows_add.spent_on_push id (sent x) f, no_data id, ap (granted_on id) rs);
-        within = λ id e. omega (arith, stands.within id (sym (live_same id) ∙ e), ap (spent_on id) rs, ap (granted_on id) ss, windows_add.granted_push id (sent x) f);
+        covered = λ id e. omega (arith, stands.covered id (sym (live_same id) ∙ e), ap (spent_on id) ss, window_sums_grow.spent_on_push id (sent x) f, no_data id, ap (granted_on id) rs);
+        within = λ id e. omega (arith, stands.within id (sym (live_same id) ∙ e), ap (spent_on id) rs, ap (granted_on id) ss, window_sums_grow.granted_push id (sent x) f);
         untouched = λ id lt e. record { as_new = t.streams id ∙ (stands.untouched id lt e).as_new; no_reset = t.resets id ∙ (stands.untouched id lt e).no_reset; no_block = ap (λ (fs : List Frame). is_on id (open_block fs)) rs ∙ (stands.untouched id lt e).no_block };
       }
     where
@@ -61,7 +61,7 @@ module _ (s : Set) (x : List Step) (f : Frame) (stands : StandsFor s x) where
       ss = sent_push x f
 
       live_same : (id : ℕ) → is_live s.role after id ≡ is_live s.role x id
-      live_same id = live_by s.role x after id (is_begun s.role x id) (is_reset x id) (is_ended_by (received x) id) (is_ended_by (sent x) id) (t.begun_one id) (t.resets id) (ap (λ (z : Stream). z.is_ended_there) (t.streams id)) (ap (λ (z : Stream). z.is_ended_here) (t.streams id))
+      live_same id = live_by s.role x after id (is_begun s.role x id) (is_reset x id) (is_ended_by (received x) id) (is_ended_by (sent x) id) (t.begun_one id) (t.resets id) (ap (λ (z : Stream). z.is_closed_remote) (t.streams id)) (ap (λ (z : Stream). z.is_closed_local) (t.streams id))
 
       unless : (a b : Bool) (n : ℕ) → a ≡ false → ◌≡◌ {A = ℕ} (if a && b then n else 0) 0
       unless true b n e = absurd cc
@@ -127,7 +127,7 @@ goaway_stays s x b h = record {
   empty = refl;
 }
 
-pub controls_are_quiet : ControlsAreQuiet
-controls_are_quiet s x b f (inl e) h = subst (λ (g : Frame). StandsFor s (x ++ Sent g ∷ [])) (sym e) (stays_standing s x (Settings b) h (settings_stay s x b h))
-controls_are_quiet s x b f (inr (inl e)) h = subst (λ (g : Frame). StandsFor s (x ++ Sent g ∷ [])) (sym e) (stays_standing s x (Ping b) h (ping_stays s x b h))
-controls_are_quiet s x b f (inr (inr e)) h = subst (λ (g : Frame). StandsFor s (x ++ Sent g ∷ [])) (sym e) (stays_standing s x (GoAway b) h (goaway_stays s x b h))
+pub control_frames_change_nothing : ControlFramesChangeNothing
+control_frames_change_nothing s x b f (inl e) h = subst (λ (g : Frame). StandsFor s (x ++ Sent g ∷ [])) (sym e) (stays_standing s x (Settings b) h (settings_stay s x b h))
+control_frames_change_nothing s x b f (inr (inl e)) h = subst (λ (g : Frame). StandsFor s (x ++ Sent g ∷ [])) (sym e) (stays_standing s x (Ping b) h (ping_stays s x b h))
+control_frames_change_nothing s x b f (inr (inr e)) h = subst (λ (g : Frame). StandsFor s (x ++ Sent g ∷ [])) (sym e) (stays_standing s x (GoAway b) h (goaway_stays s x b h))

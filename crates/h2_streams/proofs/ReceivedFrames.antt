@@ -17,7 +17,7 @@ use Rattle.h2_exchange.specs.Rules.{is_client, breaks_block_on}
 use Rattle.h2_exchange.specs.Streams.{of_client, highest, is_odd, is_new, begins, begun, is_begun, is_live, is_reset, is_ended_by, is_last_on, has_rst_stream, has_head}
 use Rattle.h2_exchange.specs.Windows.{granted_on, spent_on}
 use Rattle.h2_exchange.proofs.Looking.{or_nothing}
-use Rattle.h2_exchange.proofs.Steps.{received_push, sent_received, blocks_add, windows_add, begun_push, begun_list_push, highest_push}
+use Rattle.h2_exchange.proofs.Steps.{received_push, sent_received, header_blocks_grow, window_sums_grow, begun_push, begun_list_push, highest_push}
 use Rattle.h2_streams.specs.declared.live.Stream.{Stream}
 use Rattle.h2_streams.specs.Stands.{stream_by, stream_at}
 use Rattle.h2_streams.proofs.Lists.{eqb_is, self_eq, isnt}
@@ -97,7 +97,7 @@ last_on (Some b) k id on = or_nothing (b.last && b.stream == id) ∙ ap (λ (n :
 
 pub ended_heard : (fs : List Frame) (f : Frame) (id : ℕ) → StandsOn (open_block fs) f → is_ended_by (fs ++ f ∷ []) id ≡ (is_ended_by fs id || ends_by fs f && stream_of f == id)
 ended_heard fs f id on =
-    ap (λ (bs : List Block). list_any (λ g. is_data g && has_end_stream g && stream_of g == id) (fs ++ f ∷ []) || list_any (is_last_on id) bs) (blocks_add.blocks_push fs f)
+    ap (λ (bs : List Block). list_any (λ g. is_data g && has_end_stream g && stream_of g == id) (fs ++ f ∷ []) || list_any (is_last_on id) bs) (header_blocks_grow.blocks_push fs f)
     ∙ ap (λ (t : Bool). t || list_any (is_last_on id) (blocks fs ++ option_to_list (completed fs f))) (list_any-append (λ g. is_data g && has_end_stream g && stream_of g == id) fs (f ∷ []))
     ∙ ap (λ (t : Bool). list_any (λ g. is_data g && has_end_stream g && stream_of g == id) fs || (is_data f && has_end_stream f && stream_of f == id || false) || t)
     (list_any-append (is_last_on id) (blocks fs) (option_to_list (completed fs f)) ∙ ap (λ (t : Bool). list_any (is_last_on id) (blocks fs) || t) (last_on (completed fs f) (stream_of f) id on))
@@ -109,7 +109,7 @@ head_on (Some b) k id on = or_nothing (b.stream == id) ∙ ap (λ (n : ℕ). n =
 
 pub head_heard : (fs : List Frame) (f : Frame) (id : ℕ) → StandsOn (open_block fs) f → has_head (fs ++ f ∷ []) id ≡ (has_head fs id || is_some (completed fs f) && stream_of f == id)
 head_heard fs f id on =
-    ap (list_any (λ b. b.stream == id)) (blocks_add.blocks_push fs f) ∙ list_any-append (λ b. b.stream == id) (blocks fs) (option_to_list (completed fs f))
+    ap (list_any (λ b. b.stream == id)) (header_blocks_grow.blocks_push fs f) ∙ list_any-append (λ b. b.stream == id) (blocks fs) (option_to_list (completed fs f))
     ∙ ap (λ (t : Bool). has_head fs id || t) (head_on (completed fs f) (stream_of f) id on)
 
 -- ---- a stream, by what was received on it
@@ -117,8 +117,8 @@ head_heard fs f id on =
 abbrev pub heard_as : H2Limits → List Frame → ℕ → Bool → Bool → ℕ → ℕ → Stream
 heard_as limits ss id ended head given used = record {
   id = id;
-  is_ended_here = is_ended_by ss id;
-  is_ended_there = ended;
+  is_closed_local = is_ended_by ss id;
+  is_closed_remote = ended;
   has_head = head;
   room = 2147483648 + given - spent_on id ss;
   receive = limits.window + granted_on id ss - used;
@@ -167,7 +167,7 @@ module _ (role : Role) (limits : H2Limits) (x : List Step) (f : Frame) (on : Sta
   stream_heard id ended head given used p q r t =
       ap (λ (ss : List Frame). stream_by limits (received after) ss id) (sent_received x f) ∙ ap (λ (rs : List Frame). stream_by limits rs (sent x) id) (received_push x f)
       ∙ same_heard limits (sent x) id (is_ended_by (received x ++ f ∷ []) id) ended (has_head (received x ++ f ∷ []) id) head (granted_on id (received x ++ f ∷ [])) given (spent_on id (received x ++ f ∷ [])) used
-      (ended_heard (received x) f id on ∙ p) (head_heard (received x) f id on ∙ q) (windows_add.granted_push id (received x) f ∙ r) (windows_add.spent_on_push id (received x) f ∙ t)
+      (ended_heard (received x) f id on ∙ p) (head_heard (received x) f id on ∙ q) (window_sums_grow.granted_push id (received x) f ∙ r) (window_sums_grow.spent_on_push id (received x) f ∙ t)
 
   pub other_same : (id : ℕ) → (id ≡ k → ⊥) → stream_at limits after id ≡ stream_at limits x id
   other_same id g =

@@ -10,7 +10,7 @@ use Rattle.h2_exchange.specs.Blocks.{Block, open_block}
 use Rattle.h2_exchange.specs.Exchange.{Step, Sent, received, sent}
 use Rattle.h2_exchange.specs.Streams.{of_client, highest, begun, is_begun, is_live, is_reset, is_ended_by, live}
 use Rattle.h2_exchange.specs.Windows.{initial_window, granted_on, spent_on, spent}
-use Rattle.h2_exchange.proofs.Steps.{received_sent, sent_push, windows_add, begun_within}
+use Rattle.h2_exchange.proofs.Steps.{received_sent, sent_push, window_sums_grow, begun_within}
 use Rattle.h2_streams.specs.Live.{without}
 use Rattle.h2_streams.specs.Set.{Set, dropped}
 use Rattle.h2_streams.specs.Stands.{stream_at, StandsFor, is_on}
@@ -27,10 +27,10 @@ module _ (role : Role) (limits : H2Limits) (x : List Step) (b : FrameBody) where
       (or_false (is_ended_by (sent x) id) false refl) (plus_if_zero (spent_on id (sent x)) (b.stream == id)) (omega arith)
 
   here_same : (id : ℕ) → is_ended_by (sent after) id ≡ is_ended_by (sent x) id
-  here_same id = ap (λ (s : Rattle.h2_streams.specs.declared.live.Stream.Stream). s.is_ended_here) (same_stream id)
+  here_same id = ap (λ (s : Rattle.h2_streams.specs.declared.live.Stream.Stream). s.is_closed_local) (same_stream id)
 
   there_same : (id : ℕ) → is_ended_by (received after) id ≡ is_ended_by (received x) id
-  there_same id = ap (λ (s : Rattle.h2_streams.specs.declared.live.Stream.Stream). s.is_ended_there) (same_stream id)
+  there_same id = ap (λ (s : Rattle.h2_streams.specs.declared.live.Stream.Stream). s.is_closed_remote) (same_stream id)
 
   pub live_same : (k id : ℕ) → b.stream ≡ k → (id ≡ k → ⊥) → is_live role after id ≡ is_live role x id
   live_same k id e f =
@@ -62,8 +62,8 @@ resets s x k b h old on =
       started_is = h.started_is ∙ ap (λ (fs : List Frame). not (length fs == 0)) (sym rs);
       block_is = h.block_is ∙ ap (λ (fs : List Frame). option_map (λ (c : Block). (c.stream, c.last)) (open_block fs)) (sym rs);
       initial_is = h.initial_is ∙ ap initial_window (sym rs);
-      send_is = omega (arith, h.send_is, ap spent ss, windows_add.spent_push (sent x) (RstStream b), ap (granted_on 0) rs);
-      receive_is = omega (arith, h.receive_is, ap (granted_on 0) ss, windows_add.granted_push 0 (sent x) (RstStream b), ap spent rs);
+      send_is = omega (arith, h.send_is, ap spent ss, window_sums_grow.spent_push (sent x) (RstStream b), ap (granted_on 0) rs);
+      receive_is = omega (arith, h.receive_is, ap (granted_on 0) ss, window_sums_grow.granted_push 0 (sent x) (RstStream b), ap spent rs);
       initial_small = h.initial_small;
       covered = λ id e. covered id e;
       within = λ id e. omega (
@@ -71,7 +71,7 @@ resets s x k b h old on =
         h.within id (was_live id e),
         ap (spent_on id) rs,
         ap (granted_on id) ss,
-        windows_add.granted_push id (sent x) (RstStream b),
+        window_sums_grow.granted_push id (sent x) (RstStream b),
       );
       untouched = λ id lt e. record {
         as_new = same_stream s.role s.limits x b id ∙ (h.untouched id lt e).as_new;
@@ -88,7 +88,7 @@ resets s x k b h old on =
           arith,
           h.covered id (sym (live_same s.role s.limits x b k id on f) ∙ g),
           ap (spent_on id) (sent_push x (RstStream b)),
-          windows_add.spent_on_push id (sent x) (RstStream b),
+          window_sums_grow.spent_on_push id (sent x) (RstStream b),
           plus_if_zero (spent_on id (sent x)) (b.stream == id),
           ap (granted_on id) (received_sent x (RstStream b)),
         )) e

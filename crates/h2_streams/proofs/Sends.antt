@@ -11,7 +11,7 @@ use Rattle.h2_exchange.specs.Exchange.{Step, Sent, received, sent}
 use Rattle.h2_exchange.specs.Frames.{has_end_stream}
 use Rattle.h2_exchange.specs.Streams.{of_client, highest, is_odd, begun, is_begun, is_live, is_open, is_over, is_reset, is_ended_by, live}
 use Rattle.h2_exchange.specs.Windows.{initial_window, granted_on, spent_on, spent as all_spent}
-use Rattle.h2_exchange.proofs.Steps.{received_sent, sent_push, windows_add, begun_within}
+use Rattle.h2_exchange.proofs.Steps.{received_sent, sent_push, window_sums_grow, begun_within}
 use Rattle.h2_streams.specs.declared.live.Stream.{Stream}
 use Rattle.h2_streams.specs.Live.{replaced}
 use Rattle.h2_streams.specs.Set.{Set, at, spent_at, spent, room_of}
@@ -61,12 +61,12 @@ module _ (role : Role) (limits : H2Limits) (x : List Step) (b : FrameBody) (k : 
   pub live_other : (id : ℕ) → (id ≡ k → ⊥) → is_live role after id ≡ is_live role x id
   live_other id f =
       live_by role x after id (is_begun role x id) (is_reset x id) (is_ended_by (received x) id) (is_ended_by (sent x) id) (begun_same role x (Content b) id refl)
-      (no_reset id) (ap (λ (s : Stream). s.is_ended_there) (other_same id f)) (ap (λ (s : Stream). s.is_ended_here) (other_same id f))
+      (no_reset id) (ap (λ (s : Stream). s.is_closed_remote) (other_same id f)) (ap (λ (s : Stream). s.is_closed_local) (other_same id f))
 
   pub live_this : is_live role after k ≡ (is_begun role x k && not (is_reset x k || is_ended_by (received x) k && (is_ended_by (sent x) k || has_end_stream (Content b))))
   live_this =
       live_by role x after k (is_begun role x k) (is_reset x k) (is_ended_by (received x) k) (is_ended_by (sent x) k || has_end_stream (Content b)) (begun_same role x (Content b) k refl)
-      (no_reset k) (ap (λ (s : Stream). s.is_ended_there) this_changed) (ap (λ (s : Stream). s.is_ended_here) this_changed)
+      (no_reset k) (ap (λ (s : Stream). s.is_closed_remote) this_changed) (ap (λ (s : Stream). s.is_closed_local) this_changed)
 
   pub live_kept : has_end_stream (Content b) ≡ false → is_live role after k ≡ is_live role x k
   live_kept e = live_this ∙ ap (λ (h : Bool). is_begun role x k && not (is_reset x k || is_ended_by (received x) k && h)) (or_false (is_ended_by (sent x) k) (has_end_stream (Content b)) e)
@@ -84,7 +84,7 @@ module _ (role : Role) (limits : H2Limits) (x : List Step) (b : FrameBody) (k : 
       ∙ ap (roomy (is_ended_by (sent x) k)) (taken (2147483648 + granted_on k (received x)) (spent_on k (sent x)) (length b.payload) n l)
     where
       roomy : Bool → ℕ → Stream
-      roomy h r = record { id = k; is_ended_here = h; is_ended_there = is_ended_by (received x) k; has_head = Rattle.h2_exchange.specs.Streams.has_head (received x) k; room = r; receive = limits.window + granted_on k (sent x) - spent_on k (received x) }
+      roomy h r = record { id = k; is_closed_local = h; is_closed_remote = is_ended_by (received x) k; has_head = Rattle.h2_exchange.specs.Streams.has_head (received x) k; room = r; receive = limits.window + granted_on k (sent x) - spent_on k (received x) }
 
       taken : (whole used m n : ℕ) → m ≡ n → whole - (used + m) ≡ whole - used - n
       taken whole used m n e = omega arith
@@ -105,8 +105,8 @@ some_when : (b : Bool) (stream : Stream) → b ≡ true → (if b then Some stre
 some_when true stream e = refl
 some_when false stream e = absurd cc
 
-pub room_when : (s : Set) (stream : Stream) (n : ℕ) → stream.is_ended_here ≡ false → n ≤ room_of s (Some stream) → n ≤ min (s.initial + stream.room - 2147483648) s.send
-room_when s stream n e h = by stream.is_ended_here e h
+pub room_when : (s : Set) (stream : Stream) (n : ℕ) → stream.is_closed_local ≡ false → n ≤ room_of s (Some stream) → n ≤ min (s.initial + stream.room - 2147483648) s.send
+room_when s stream n e h = by stream.is_closed_local e h
   where
     by : (b : Bool) → b ≡ false → n ≤ (if b then 0 else min (s.initial + stream.room - 2147483648) s.send) → n ≤ min (s.initial + stream.room - 2147483648) s.send
     by true e h = absurd cc
@@ -128,11 +128,11 @@ sends s x k n b h open-here on long no-end fits =
       started_is = h.started_is ∙ ap (λ (fs : List Frame). not (length fs == 0)) (sym rs);
       block_is = h.block_is ∙ ap (λ (fs : List Frame). option_map (λ (c : Block). (c.stream, c.last)) (open_block fs)) (sym rs);
       initial_is = h.initial_is ∙ ap initial_window (sym rs);
-      send_is = omega (arith, h.send_is, room, ap all_spent ss, windows_add.spent_push (sent x) (Content b), ap (granted_on 0) rs, long);
-      receive_is = omega (arith, h.receive_is, ap (granted_on 0) ss, windows_add.granted_push 0 (sent x) (Content b), ap all_spent rs);
+      send_is = omega (arith, h.send_is, room, ap all_spent ss, window_sums_grow.spent_push (sent x) (Content b), ap (granted_on 0) rs, long);
+      receive_is = omega (arith, h.receive_is, ap (granted_on 0) ss, window_sums_grow.granted_push 0 (sent x) (Content b), ap all_spent rs);
       initial_small = h.initial_small;
       covered = covered;
-      within = λ id e. omega (arith, h.within id (was_live id e), ap (spent_on id) rs, ap (granted_on id) ss, windows_add.granted_push id (sent x) (Content b));
+      within = λ id e. omega (arith, h.within id (was_live id e), ap (spent_on id) rs, ap (granted_on id) ss, window_sums_grow.granted_push id (sent x) (Content b));
       untouched = λ id lt e. record {
         as_new = other_same s.role s.limits x b k on id (λ f. omega (arith, lt, low, h.highest_is, f)) ∙ (h.untouched id lt e).as_new;
         no_reset = reset_sent x (Content b) id ∙ or_false (is_reset x id) false refl ∙ (h.untouched id lt e).no_reset;
@@ -160,7 +160,7 @@ sends s x k n b h open-here on long no-end fits =
     room = room_when s (stream_at s.limits x k) n (back_true (is_live s.role x k) (is_ended_by (sent x) k) open-here) (subst (λ (o : Option Stream). n ≤ room_of s o) found fits)
 
     more : (id : ℕ) → spent_on id (sent (x ++ Sent (Content b) ∷ [])) ≡ spent_on id (sent x) + (if b.stream == id then length b.payload else 0)
-    more id = ap (spent_on id) ss ∙ windows_add.spent_on_push id (sent x) (Content b)
+    more id = ap (spent_on id) ss ∙ window_sums_grow.spent_on_push id (sent x) (Content b)
 
     covered : (id : ℕ) → is_live s.role (x ++ Sent (Content b) ∷ []) id ≡ true → spent_on id (sent (x ++ Sent (Content b) ∷ [])) < 2147483648 + granted_on id (received (x ++ Sent (Content b) ∷ []))
     covered id e =

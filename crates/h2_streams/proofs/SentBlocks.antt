@@ -16,11 +16,11 @@ use Rattle.h2_exchange.specs.Frames.{stream_of, is_data, is_headers, is_continua
 use Rattle.h2_exchange.specs.Streams.{of_client, highest, is_odd, is_new, begins, begun, is_begun, is_over, is_live, is_open, is_reset, is_ended_by, is_last_on, live}
 use Rattle.h2_exchange.specs.Windows.{initial_window, granted_on, spent_on, spent}
 use Rattle.h2_exchange.proofs.Looking.{or_nothing}
-use Rattle.h2_exchange.proofs.Steps.{received_sent, sent_push, windows_add, blocks_add, begun_push, begun_list_push, begun_within, highest_push}
+use Rattle.h2_exchange.proofs.Steps.{received_sent, sent_push, window_sums_grow, header_blocks_grow, begun_push, begun_list_push, begun_within, highest_push}
 use Rattle.h2_streams.specs.declared.live.Stream.{Stream}
-use Rattle.h2_streams.specs.Laws.{BeginsNothing, BlocksAreQuiet}
+use Rattle.h2_streams.specs.Laws.{BeginsNothing, HeaderFramesChangeNothing}
 use Rattle.h2_streams.specs.Live.{replaced, without}
-use Rattle.h2_streams.specs.Set.{Set, dropped, ended_here, finished}
+use Rattle.h2_streams.specs.Set.{Set, dropped, closed_local, finished}
 use Rattle.h2_streams.specs.Stands.{stream_by, stream_at, StandsFor, is_on}
 use Rattle.h2_streams.proofs.Begins.{or_falses}
 use Rattle.h2_streams.proofs.Ends.{or_true}
@@ -120,14 +120,14 @@ module _ (role : Role) (limits : H2Limits) (x : List Step) (f : Frame) (part : I
   resets id = reset_sent x f id ∙ or_false (is_reset x id) (is_rst_stream f && stream_of f == id) (and_off (is_rst_stream f) (stream_of f == id) part.no_reset)
 
   no_spend : (id : ℕ) → spent_on id (sent x ++ f ∷ []) ≡ spent_on id (sent x)
-  no_spend id = windows_add.spent_on_push id (sent x) f ∙ zero (stream_of f == id) (counted f) (spent_on id (sent x)) part.no_count
+  no_spend id = window_sums_grow.spent_on_push id (sent x) f ∙ zero (stream_of f == id) (counted f) (spent_on id (sent x)) part.no_count
     where
       zero : (t : Bool) (n m : ℕ) → n ≡ 0 → m + (if t then n else 0) ≡ m
       zero true n m e = omega (arith, e)
       zero false n m e = omega arith
 
   no_grant : (id : ℕ) → granted_on id (sent x ++ f ∷ []) ≡ granted_on id (sent x)
-  no_grant id = windows_add.granted_push id (sent x) f ∙ zero (is_window_update f) (stream_of f == id) (increment_of f) (granted_on id (sent x)) part.no_update
+  no_grant id = window_sums_grow.granted_push id (sent x) f ∙ zero (is_window_update f) (stream_of f == id) (increment_of f) (granted_on id (sent x)) part.no_update
     where
       zero : (a t : Bool) (n m : ℕ) → a ≡ false → m + (if a && t then n else 0) ≡ m
       zero true t n m e = absurd cc
@@ -144,7 +144,7 @@ module _ (role : Role) (limits : H2Limits) (x : List Step) (f : Frame) (part : I
   not_ended : (id : ℕ) → last_of (completed (sent x) f) ≡ false → is_ended_by (sent x ++ f ∷ []) id ≡ is_ended_by (sent x) id
   unfolding data_test
   not_ended id e =
-      ap (λ (bs : List Block). list_any (data_test id) (sent x ++ f ∷ []) || list_any (is_last_on id) bs) (blocks_add.blocks_push (sent x) f)
+      ap (λ (bs : List Block). list_any (data_test id) (sent x ++ f ∷ []) || list_any (is_last_on id) bs) (header_blocks_grow.blocks_push (sent x) f)
       ∙ ap (λ (t : Bool). list_any (data_test id) (sent x ++ f ∷ []) || t) (list_any-append (is_last_on id) (blocks (sent x)) (option_to_list (completed (sent x) f)))
       ∙ or_falses (list_any (data_test id) (sent x)) (list_any (data_test id) (sent x ++ f ∷ [])) (list_any (is_last_on id) (blocks (sent x))) (list_any (is_last_on id) (option_to_list (completed (sent x) f)))
       (list_any-append (data_test id) (sent x) (f ∷ []) ∙ or_false (list_any (data_test id) (sent x)) (data_test id f || false) (or_nothing (data_test id f) ∙ ap (λ (t : Bool). t && has_end_stream f && stream_of f == id) part.no_data))
@@ -158,8 +158,8 @@ module _ (role : Role) (limits : H2Limits) (x : List Step) (f : Frame) (part : I
 
 -- ---- a frame that ends no stream
 
-pub blocks_are_quiet : BlocksAreQuiet
-blocks_are_quiet s x f part old quiet h =
+pub header_frames_change_nothing : HeaderFramesChangeNothing
+header_frames_change_nothing s x f part old quiet h =
     stays_standing s x f h (
     record {
       streams = λ id. stream_after s.role s.limits x f (part_of f part) old id (is_ended_by (sent x) id) (not_ended s.role s.limits x f (part_of f part) old id no_end);
@@ -210,7 +210,7 @@ module _ (s : Set) (x : List Step) (f : Frame) (h : StandsFor s x) (open_here : 
   other_same : (id : ℕ) → (id ≡ k → ⊥) → stream_at s.limits over id ≡ stream_at s.limits x id
   other_same id g = stream_after s.role s.limits x f part old id (is_ended_by (sent x) id) (ended_other id g)
 
-  ended_is : stream_at s.limits over k ≡ record was { is_ended_here = true }
+  ended_is : stream_at s.limits over k ≡ record was { is_closed_local = true }
   ended_is = stream_after s.role s.limits x f part old k true ended_here_now
 
   live_other : (id : ℕ) → (id ≡ k → ⊥) → is_live s.role over id ≡ is_live s.role x id
@@ -246,7 +246,7 @@ module _ (s : Set) (x : List Step) (f : Frame) (h : StandsFor s x) (open_here : 
     started_is = h.started_is ∙ ap (λ (fs : List Frame). not (length fs == 0)) (sym rs);
     block_is = h.block_is ∙ ap (λ (fs : List Frame). option_map (λ (c : Block). (c.stream, c.last)) (open_block fs)) (sym rs);
     initial_is = h.initial_is ∙ ap initial_window (sym rs);
-    send_is = omega (arith, h.send_is, ap spent ss, windows_add.spent_push (sent x) f, part.no_count, ap (granted_on 0) rs);
+    send_is = omega (arith, h.send_is, ap spent ss, window_sums_grow.spent_push (sent x) f, part.no_count, ap (granted_on 0) rs);
     receive_is = omega (arith, h.receive_is, ap (granted_on 0) ss, no_grant s.role s.limits x f part old 0, ap spent rs);
     initial_small = h.initial_small;
     covered = λ id e. omega (arith, h.covered id (was_live id e), ap (spent_on id) ss, no_spend s.role s.limits x f part old id, ap (granted_on id) rs);
@@ -273,18 +273,18 @@ module _ (s : Set) (x : List Step) (f : Frame) (h : StandsFor s x) (open_here : 
       dead true false = refl
       dead false r = refl
 
-  is_half : is_ended_by (received x) k ≡ false → replaced k (record was { is_ended_here = true }) s.live ≡ map (stream_at s.limits over) (live s.role over)
+  is_half : is_ended_by (received x) k ≡ false → replaced k (record was { is_closed_local = true }) s.live ≡ map (stream_at s.limits over) (live s.role over)
   is_half e =
-      ap (replaced k (record was { is_ended_here = true })) h.live_is ∙ ap (λ (t : Stream). replaced k t (map (stream_at s.limits x) (live s.role x))) (sym ended_is)
+      ap (replaced k (record was { is_closed_local = true })) h.live_is ∙ ap (λ (t : Stream). replaced k t (map (stream_at s.limits x) (live s.role x))) (sym ended_is)
       ∙ sym (replaced_is (is_live s.role x) (is_live s.role over) (stream_at s.limits x) (stream_at s.limits over) (λ id. refl) k others
       (live_this ∙ ap (λ (t : Bool). is_begun s.role x k && not (is_reset x k || t && true)) e ∙ ap (λ (t : Bool). is_begun s.role x k && not (is_reset x k || t && is_ended_by (sent x) k)) (sym e)) (begun s.role x))
       ∙ sym begun_list
 
-  finished_is : (t : Bool) → is_ended_by (received x) k ≡ t → finished k s ≡ left (if t then without k s.live else replaced k (record was { is_ended_here = true }) s.live)
+  finished_is : (t : Bool) → is_ended_by (received x) k ≡ t → finished k s ≡ left (if t then without k s.live else replaced k (record was { is_closed_local = true }) s.live)
   unfolding left
-  finished_is t e = ap (ended_here k s) (found_live s x k h open_here) ∙ ap (λ (z : Bool). if z then dropped k s else left (replaced k (record was { is_ended_here = true }) s.live)) e ∙ by t
+  finished_is t e = ap (closed_local k s) (found_live s x k h open_here) ∙ ap (λ (z : Bool). if z then dropped k s else left (replaced k (record was { is_closed_local = true }) s.live)) e ∙ by t
     where
-      by : (z : Bool) → (if z then dropped k s else left (replaced k (record was { is_ended_here = true }) s.live)) ≡ left (if z then without k s.live else replaced k (record was { is_ended_here = true }) s.live)
+      by : (z : Bool) → (if z then dropped k s else left (replaced k (record was { is_closed_local = true }) s.live)) ≡ left (if z then without k s.live else replaced k (record was { is_closed_local = true }) s.live)
       by true = refl
       by false = refl
 
@@ -293,7 +293,7 @@ module _ (s : Set) (x : List Step) (f : Frame) (h : StandsFor s x) (open_here : 
     where
       by : (t : Bool) → is_ended_by (received x) k ≡ t → StandsFor (finished k s) over
       by true e = subst (λ (t : Set). StandsFor t over) (sym (finished_is true e)) (stands_by (without k s.live) (is_gone e))
-      by false e = subst (λ (t : Set). StandsFor t over) (sym (finished_is false e)) (stands_by (replaced k (record was { is_ended_here = true }) s.live) (is_half e))
+      by false e = subst (λ (t : Set). StandsFor t over) (sym (finished_is false e)) (stands_by (replaced k (record was { is_closed_local = true }) s.live) (is_half e))
 
 -- a completed header block that ends its side
 pub finishes : (s : Set) (x : List Step) (f : Frame) (k : ℕ) (b : Block) → StandsFor s x → is_open s.role x k ≡ true → (is_headers f || is_continuation f) ≡ true →

@@ -16,7 +16,7 @@ use Rattle.h2_exchange.specs.Frames.{stream_of, is_data, is_headers, is_rst_stre
 use Rattle.h2_exchange.specs.Streams.{of_client, highest, is_odd, begins, begun, is_begun, is_live, is_over, is_reset, is_ended_by, is_last_on, has_rst_stream, has_head}
 use Rattle.h2_exchange.specs.Windows.{granted_on, spent_on}
 use Rattle.h2_exchange.proofs.Looking.{or_nothing}
-use Rattle.h2_exchange.proofs.Steps.{received_sent, sent_push, blocks_add, windows_add, begun_push, begun_list_push, highest_push}
+use Rattle.h2_exchange.proofs.Steps.{received_sent, sent_push, header_blocks_grow, window_sums_grow, begun_push, begun_list_push, highest_push}
 use Rattle.h2_streams.specs.declared.live.Stream.{Stream}
 use Rattle.h2_streams.specs.Stands.{stream_by, stream_at}
 use Rattle.h2_streams.proofs.Lists.{isnt}
@@ -37,7 +37,7 @@ reset_is_no_block (Some block) b = refl
 
 pub blocks_same : (fs : List Frame) (f : Frame) → block_with (open_block fs) f ≡ None → blocks (fs ++ f ∷ []) ≡ blocks fs
 blocks_same fs f e =
-    blocks_add.blocks_push fs f
+    header_blocks_grow.blocks_push fs f
     ∙ ap (λ (o : Option Block). blocks fs ++ option_to_list o) (if_none (has_end_headers f) (block_with (open_block fs) f) e)
     ∙ append-nil (blocks fs)
 
@@ -66,8 +66,8 @@ rsts_or false b c = refl
 abbrev pub made : H2Limits → List Frame → ℕ → Bool → ℕ → ℕ → Stream
 made limits rs id ended used given = record {
   id = id;
-  is_ended_here = ended;
-  is_ended_there = is_ended_by rs id;
+  is_closed_local = ended;
+  is_closed_remote = is_ended_by rs id;
   has_head = has_head rs id;
   room = 2147483648 + granted_on id rs - used;
   receive = limits.window + given - spent_on id rs;
@@ -119,7 +119,7 @@ stream_sent limits x f id ended used given e p q r =
     ap (λ (rs : List Frame). stream_by limits rs (sent (x ++ Sent f ∷ [])) id) (received_sent x f)
     ∙ ap (λ (ss : List Frame). stream_by limits (received x) ss id) (sent_push x f)
     ∙ same_made limits (received x) id (is_ended_by (sent x ++ f ∷ []) id) ended (spent_on id (sent x ++ f ∷ [])) used (granted_on id (sent x ++ f ∷ [])) given
-    (ended_push (sent x) f id e ∙ p) (windows_add.spent_on_push id (sent x) f ∙ q) (windows_add.granted_push id (sent x) f ∙ r)
+    (ended_push (sent x) f id e ∙ p) (window_sums_grow.spent_on_push id (sent x) f ∙ q) (window_sums_grow.granted_push id (sent x) f ∙ r)
 
 pub reset_sent : (x : List Step) (f : Frame) (id : ℕ) → is_reset (x ++ Sent f ∷ []) id ≡ (is_reset x id || is_rst_stream f && stream_of f == id)
 reset_sent x f id =

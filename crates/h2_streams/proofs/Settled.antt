@@ -8,9 +8,9 @@ use Rattle.h2_exchange.specs.Exchange.{Step}
 use Rattle.h2_exchange.specs.Frames.{stream_of}
 use Rattle.h2_exchange.specs.Streams.{begun, is_begun, is_live, live}
 use Rattle.h2_exchange.proofs.Steps.{begun_has, begun_within}
-use Rattle.h2_streams.specs.declared.live.Fate.TheVariants.{Over, Alive}
+use Rattle.h2_streams.specs.declared.live.StreamOutcome.TheVariants.{Over, Alive}
 use Rattle.h2_streams.specs.declared.live.Stream.{Stream}
-use Rattle.h2_streams.specs.Live.{replaced, without, settled}
+use Rattle.h2_streams.specs.Live.{replaced, without, with_outcome}
 use Rattle.h2_streams.specs.Set.{Set}
 use Rattle.h2_streams.specs.Stands.{stream_at, StandsFor}
 use Rattle.h2_streams.proofs.Agrees.{above}
@@ -45,14 +45,14 @@ module _ (s : Set) (x : List Step) (f : Frame) (h : StandsFor s x) (sound : IsSo
     not_begun : starts ≡ true → list_any (λ id. id == k) (begun s.role x) ≡ false
     not_begun e = begun_has s.role x k ∙ is_false (is_begun s.role x k) (λ b. omega (arith, above s x f h sound e, begun_within s.role x k b))
 
-    pub over_list : is_live s.role y k ≡ false → Target (settled starts k Over s.live)
+    pub over_list : is_live s.role y k ≡ false → Target (with_outcome starts k Over s.live)
     over_list dead = by starts refl
       where
-        by : (n : Bool) → starts ≡ n → Target (settled n k Over s.live)
+        by : (n : Bool) → starts ≡ n → Target (with_outcome n k Over s.live)
         by true e = h.live_is ∙ sym (gone_is (is_live s.role x) (is_live s.role y) (stream_at s.limits x) (stream_at s.limits y) (λ id. refl) k others dead (begun s.role x) (not_begun e)) ∙ sym (list_of true e)
         by false e = ap (without k) h.live_is ∙ sym (without_is (is_live s.role x) (is_live s.role y) (stream_at s.limits x) (stream_at s.limits y) (λ id. refl) k others dead (begun s.role x)) ∙ sym (old_list e)
 
-    pub alive_list : (t : Stream) → (lives || starts) ≡ true → is_live s.role y k ≡ true → t ≡ stream_at s.limits y k → Target (settled starts k (Alive t) s.live)
+    pub alive_list : (t : Stream) → (lives || starts) ≡ true → is_live s.role y k ≡ true → t ≡ stream_at s.limits y k → Target (with_outcome starts k (Alive t) s.live)
     alive_list t seen alive same = by starts refl
       where
         left : (a b : Bool) → (a || b) ≡ true → b ≡ false → a ≡ true
@@ -60,7 +60,7 @@ module _ (s : Set) (x : List Step) (f : Frame) (h : StandsFor s x) (sound : IsSo
         left false true e g = absurd cc
         left false false e g = absurd cc
 
-        by : (n : Bool) → starts ≡ n → Target (settled n k (Alive t) s.live)
+        by : (n : Bool) → starts ≡ n → Target (with_outcome n k (Alive t) s.live)
         by true e =
             ap (λ (l : List Stream). l ++ t ∷ []) h.live_is ∙ ap (λ (u : Stream). map (stream_at s.limits x) (live s.role x) ++ u ∷ []) same
             ∙ sym (added_is (is_live s.role x) (is_live s.role y) (stream_at s.limits x) (stream_at s.limits y) (λ id. refl) k others alive (begun s.role x) (not_begun e)) ∙ sym (list_of true e)

@@ -11,7 +11,7 @@ use Rattle.h2_exchange.specs.Exchange.{first_broken}
 use Rattle.h2_exchange.specs.Frames.{stream_of, payload_of, payload_length, is_push_promise, is_window_update, is_setting, increment_of, counted}
 use Rattle.h2_exchange.specs.Rules.{breaks_block_on, breaks_number, breaks_length, breaks_padding, value_error}
 use Rattle.h2_exchange.specs.Windows.{settings_of}
-use Rattle.h2_streams.specs.Judging.{shape_error_in, window_error_in, frame_error_in}
+use Rattle.h2_streams.specs.ConnectionErrors.{shape_error_in, window_error_in, frame_error_in}
 use Rattle.h2_streams.specs.Live.{is_raising}
 use Rattle.h2_streams.specs.Receiving.{granted_by}
 use Rattle.h2_streams.specs.Set.{Set}

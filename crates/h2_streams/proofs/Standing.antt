@@ -30,19 +30,19 @@ some_if false s = refl
 pub live_says : (s : Set) (x : List Step) (k : ℕ) (answer : Bool) → answer ≡ is_some (at k s) → StandsFor s x → answer ≡ is_live s.role x k
 live_says s x k answer e h = e ∙ ap is_some (at_is s x h k) ∙ some_if (is_live s.role x k) (stream_at s.limits x k)
 
-open_if : (b : Bool) (s : Stream) → is_open_in (if b then Some s else None) ≡ (b && not s.is_ended_here)
+open_if : (b : Bool) (s : Stream) → is_open_in (if b then Some s else None) ≡ (b && not s.is_closed_local)
 open_if true s = refl
 open_if false s = refl
 
 pub open_says : (s : Set) (x : List Step) (k : ℕ) (answer : Bool) → answer ≡ is_open_in (at k s) → StandsFor s x → answer ≡ is_open s.role x k
 open_says s x k answer e h = e ∙ ap is_open_in (at_is s x h k) ∙ open_if (is_live s.role x k) (stream_at s.limits x k)
 
-room_if : (live ended : Bool) (s : Set) (stream : Stream) (initial granted used stream_room whole : ℕ) → (live && not ended) ≡ true → stream.is_ended_here ≡ ended →
+room_if : (live ended : Bool) (s : Set) (stream : Stream) (initial granted used stream_room whole : ℕ) → (live && not ended) ≡ true → stream.is_closed_local ≡ ended →
     stream.room ≡ 2147483648 + granted - used → s.initial ≡ initial → s.send ≡ whole → used < 2147483648 + granted →
     room_of s (if live then Some stream else None) ≡ min (initial + granted - used) whole
 room_if true true s stream initial granted used stream_room whole = λ e. absurd cc
 room_if false ended s stream initial granted used stream_room whole = λ e. absurd cc
-room_if true false s stream initial granted used stream_room whole = λ e f g h i lt. by stream.is_ended_here f (omega arith)
+room_if true false s stream initial granted used stream_room whole = λ e f g h i lt. by stream.is_closed_local f (omega arith)
   where
     by : (b : Bool) → b ≡ false → min (s.initial + stream.room - 2147483648) s.send ≡ min (initial + granted - used) whole → (if b then 0 else min (s.initial + stream.room - 2147483648) s.send) ≡ min (initial + granted - used) whole
     by true f r = absurd cc

@@ -11,7 +11,7 @@ use Rattle.h2_exchange.specs.Exchange.{Step, Received, Sent}
 use Rattle.h2_exchange.specs.Frames.{stream_of}
 use Rattle.h2_exchange.specs.Rules.{frame_error}
 use Rattle.h2_exchange.specs.StreamErrors.{stream_error_of}
-use Rattle.h2_streams.specs.Judging.{frame_error_in}
+use Rattle.h2_streams.specs.ConnectionErrors.{frame_error_in}
 use Rattle.h2_streams.specs.Receiving.{fault_in, answer_by, taken_by}
 use Rattle.h2_streams.specs.Set.{Set}
 use Rattle.h2_streams.specs.Stands.{StandsFor}

@@ -17,8 +17,8 @@ use Rattle.h2_streams.specs.Set.{Set}
 use Rattle.h2_streams.specs.Stands.{StandsFor}
 
 -- SETTINGS, PING and GOAWAY speak of the connection alone
-abbrev pub ControlsAreQuiet : Type 0
-ControlsAreQuiet =
+abbrev pub ControlFramesChangeNothing : Type 0
+ControlFramesChangeNothing =
     (s : Set) (x : List Step) (b : FrameBody) (f : Frame) → (f ≡ Settings b) ⊎ ((f ≡ Ping b) ⊎ (f ≡ GoAway b)) → StandsFor s x → StandsFor s (x ++ Sent f ∷ [])
 
 -- HEADERS that begin no stream: a server's, and those on a stream that was begun
@@ -26,8 +26,8 @@ abbrev pub BeginsNothing : Role → List Step → Frame → Type 0
 BeginsNothing role x f = is_headers f ≡ true → (role ≡ Server) ⊎ (is_begun role x (stream_of f) ≡ true)
 
 -- a frame of a header block, which begins no stream and ends none: CONTINUATION, and such HEADERS
-abbrev pub BlocksAreQuiet : Type 0
-BlocksAreQuiet =
+abbrev pub HeaderFramesChangeNothing : Type 0
+HeaderFramesChangeNothing =
     (s : Set) (x : List Step) (f : Frame) → (is_headers f || is_continuation f) ≡ true → BeginsNothing s.role x f → ((b : Block) → completed (sent x) f ≡ Some b → b.last ≡ false) → StandsFor s x →
     StandsFor s (x ++ Sent f ∷ [])
 

@@ -1,4 +1,4 @@
-pub mod Judging
+pub mod ConnectionErrors
 pub mod Laws
 pub mod Live
 pub mod Receiving

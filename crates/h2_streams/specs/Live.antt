@@ -3,8 +3,8 @@ use Rattle.std.specs.Prelude.{◌≡◌, ℕ, ◌+◌, ◌<◌, ◌==◌, ◌&&�
 use Rattle.std.specs.List.{list_any}
 use Rattle.h2_exchange.specs.declared.role.Role.{Role}
 use Rattle.h2_exchange.specs.declared.role.Role.TheVariants.{Client, Server}
-use Rattle.h2_streams.specs.declared.live.Fate.{Fate}
-use Rattle.h2_streams.specs.declared.live.Fate.TheVariants.{Unseen, Over, Alive}
+use Rattle.h2_streams.specs.declared.live.StreamOutcome.{StreamOutcome}
+use Rattle.h2_streams.specs.declared.live.StreamOutcome.TheVariants.{NoStream, Over, Alive}
 use Rattle.h2_streams.specs.declared.live.Stream.{Stream}
 
 abbrev pub is_stream : ℕ → Stream → Bool
@@ -32,12 +32,12 @@ abbrev pub greatest_room : ℕ → List Stream → ℕ
 greatest_room most live = fold (λ most s. max most s.room) most live
 
 -- the streams behind what becomes of one of them, or of a new one, which comes last
-abbrev pub settled : Bool → ℕ → Fate → List Stream → List Stream
-settled new id Unseen live = live
-settled true id Over live = live
-settled true id (Alive stream) live = live ++ stream ∷ []
-settled false id Over live = without id live
-settled false id (Alive stream) live = replaced id stream live
+abbrev pub with_outcome : Bool → ℕ → StreamOutcome → List Stream → List Stream
+with_outcome new id NoStream live = live
+with_outcome true id Over live = live
+with_outcome true id (Alive stream) live = live ++ stream ∷ []
+with_outcome false id Over live = without id live
+with_outcome false id (Alive stream) live = replaced id stream live
 
 -- ---- the place of a new stream
 

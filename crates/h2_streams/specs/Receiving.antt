@@ -12,11 +12,11 @@ use Rattle.h2_exchange.specs.Frames.{stream_of, is_data, is_headers, is_rst_stre
 use Rattle.h2_exchange.specs.Rules.{is_client}
 use Rattle.h2_exchange.specs.Streams.{is_odd}
 use Rattle.h2_exchange.specs.Windows.{settings_in, setting}
-use Rattle.h2_streams.specs.declared.live.Fate.{Fate}
-use Rattle.h2_streams.specs.declared.live.Fate.TheVariants.{Unseen, Over, Alive}
+use Rattle.h2_streams.specs.declared.live.StreamOutcome.{StreamOutcome}
+use Rattle.h2_streams.specs.declared.live.StreamOutcome.TheVariants.{NoStream, Over, Alive}
 use Rattle.h2_streams.specs.declared.live.Stream.{Stream}
-use Rattle.h2_streams.specs.Judging.{live_error_in}
-use Rattle.h2_streams.specs.Live.{settled}
+use Rattle.h2_streams.specs.ConnectionErrors.{live_error_in}
+use Rattle.h2_streams.specs.Live.{with_outcome}
 use Rattle.h2_streams.specs.Set.{Set, at, new_stream}
 
 -- ---- header blocks
@@ -60,7 +60,7 @@ is_full_in s f = not (is_client s.role) && not (nat_lt (others_in s f) s.limits.
 abbrev pub block_error_in : Set → Frame → Stream → Option (ℕ × Bool) → Option ErrorCode
 block_error_in s f stream None = None
 block_error_in s f stream (Some block) = first_broken (
-    (stream.is_ended_there, code.STREAM_CLOSED)
+    (stream.is_closed_remote, code.STREAM_CLOSED)
     ∷ (stream.has_head && not block.1, code.PROTOCOL_ERROR)
     ∷ (not stream.has_head && is_full_in s f, code.REFUSED_STREAM) ∷ [])
 
@@ -83,24 +83,24 @@ granted_by f = if is_window_update f then increment_of f else 0
 
 abbrev pub changed_in : Set → Frame → Stream → Stream
 changed_in s f stream = record stream {
-  is_ended_there = stream.is_ended_there || ends_in s f;
+  is_closed_remote = stream.is_closed_remote || ends_in s f;
   has_head = stream.has_head || is_some (completed_by s.block f);
   room = stream.room + granted_by f;
   receive = stream.receive - counted f;
 }
 
 -- a stream that a frame leaves so is live, or over
-abbrev pub left_as : Frame → Stream → Fate
-left_as f stream = if is_rst_stream f || stream.is_ended_there && stream.is_ended_here then Over else Alive stream
+abbrev pub left_as : Frame → Stream → StreamOutcome
+left_as f stream = if is_rst_stream f || stream.is_closed_remote && stream.is_closed_local then Over else Alive stream
 
 -- what becomes of the frame's stream, which is over where the frame is a stream error
-abbrev pub fate_on : Set → Frame → Option ErrorCode → Option Stream → Fate
-fate_on s f fault None = Unseen
-fate_on s f (Some why) (Some stream) = Over
-fate_on s f None (Some stream) = left_as f (changed_in s f stream)
+abbrev pub outcome_on : Set → Frame → Option ErrorCode → Option Stream → StreamOutcome
+outcome_on s f fault None = NoStream
+outcome_on s f (Some why) (Some stream) = Over
+outcome_on s f None (Some stream) = left_as f (changed_in s f stream)
 
 abbrev pub live_behind : Set → Frame → List Stream
-live_behind s f = settled (is_new_in s f) (stream_of f) (fate_on s f (fault_in s f) (seen_in s f)) s.live
+live_behind s f = with_outcome (is_new_in s f) (stream_of f) (outcome_on s f (fault_in s f) (seen_in s f)) s.live
 
 -- the set behind a frame that is no connection error
 abbrev pub taken : Set → Frame → Set

@@ -31,7 +31,7 @@ fresh role limits = record { role = role; limits = limits; live = []; highest = 
 
 -- a stream as its HEADERS leave it; those of a client are its head
 abbrev pub new_stream : H2Limits → ℕ → Stream
-new_stream limits id = record { id = id; is_ended_here = false; is_ended_there = false; has_head = false; room = 2147483648; receive = limits.window }
+new_stream limits id = record { id = id; is_closed_local = false; is_closed_remote = false; has_head = false; room = 2147483648; receive = limits.window }
 
 abbrev pub begun : ℕ → Set → Set
 begun id s = record s { live = s.live ++ new_stream s.limits id ∷ []; highest = id }
@@ -43,23 +43,23 @@ abbrev pub dropped : ℕ → Set → Set
 dropped id s = record s { live = without id s.live }
 
 -- this side of a live stream ends
-abbrev pub ended_here : ℕ → Set → Option Stream → Set
-ended_here id s None = s
-ended_here id s (Some stream) =
-    if stream.is_ended_there then dropped id s
-    else record s { live = replaced id (record stream { is_ended_here = true }) s.live }
+abbrev pub closed_local : ℕ → Set → Option Stream → Set
+closed_local id s None = s
+closed_local id s (Some stream) =
+    if stream.is_closed_remote then dropped id s
+    else record s { live = replaced id (record stream { is_closed_local = true }) s.live }
 
 abbrev pub finished : ℕ → Set → Set
-finished id s = ended_here id s (at id s)
+finished id s = closed_local id s (at id s)
 
 abbrev pub is_open_in : Option Stream → Bool
 is_open_in None = false
-is_open_in (Some stream) = not stream.is_ended_here
+is_open_in (Some stream) = not stream.is_closed_local
 
 -- how many bytes may be sent on an open stream
 abbrev pub room_of : Set → Option Stream → ℕ
 room_of s None = 0
-room_of s (Some stream) = if stream.is_ended_here then 0 else min (s.initial + stream.room - 2147483648) s.send
+room_of s (Some stream) = if stream.is_closed_local then 0 else min (s.initial + stream.room - 2147483648) s.send
 
 -- so many bytes of DATA were sent
 abbrev pub spent_at : ℕ → ℕ → Set → Option Stream → Set

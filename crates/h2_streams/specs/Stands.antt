@@ -13,8 +13,8 @@ use Rattle.h2_streams.specs.Set.{Set, new_stream}
 abbrev pub stream_by : H2Limits → List Frame → List Frame → ℕ → Stream
 stream_by limits received sent id = record {
   id = id;
-  is_ended_here = is_ended_by sent id;
-  is_ended_there = is_ended_by received id;
+  is_closed_local = is_ended_by sent id;
+  is_closed_remote = is_ended_by received id;
   has_head = has_head received id;
   room = 2147483648 + granted_on id received - spent_on id sent;
   receive = limits.window + granted_on id sent - spent_on id received;

@@ -1,7 +1,7 @@
 //! The streams that are live, in the order of their ids.
 ghost use Rattle.std.specs.Prelude.{◌≡◌, ◌<◌, true, length, find, if◌then◌else◌};
 ghost use Rattle.std.specs.Vec.{vec_capacity, vec_len};
-ghost use Rattle.h2_streams.specs.Live.{is_stream, replaced, settled, without};
+ghost use Rattle.h2_streams.specs.Live.{is_stream, replaced, with_outcome, without};
 ghost use Rattle.h2_streams.specs.Set.{new_stream};
 
 use h2_exchange::H2Limits;
@@ -10,8 +10,8 @@ use h2_exchange::H2Limits;
 #[derive(Clone, Copy, Debug)]
 pub struct Stream {
     pub id: u32,
-    pub is_ended_here: bool,
-    pub is_ended_there: bool,
+    pub is_closed_local: bool,
+    pub is_closed_remote: bool,
     pub has_head: bool,
     /// 2^31 and what the peer granted beyond its initial window, less what was sent.
     pub room: u32,
@@ -21,9 +21,9 @@ pub struct Stream {
 
 /// What becomes of a frame's stream.
 #[derive(Clone, Copy, Debug)]
-pub enum Fate {
+pub enum StreamOutcome {
     /// The frame stands on no live stream.
-    Unseen,
+    NoStream,
     Over,
     Alive(Stream),
 }
@@ -35,8 +35,8 @@ impl Stream {
     {
         Stream {
             id,
-            is_ended_here: false,
-            is_ended_there: false,
+            is_closed_local: false,
+            is_closed_remote: false,
             has_head: false,
             room: 2_147_483_648,
             receive: limits.window,
@@ -80,19 +80,19 @@ pub fn put(live: &mut Vec<Stream>, id: u32, new: Stream)
 }
 
 /// Puts what becomes of a stream, or of a new one, which comes last.
-pub fn settle(live: &mut Vec<Stream>, is_new: bool, id: u32, fate: Fate)
+pub fn apply_outcome(live: &mut Vec<Stream>, is_new: bool, id: u32, outcome: StreamOutcome)
     requires { is_new ≡ true → vec_len live.old < vec_capacity live.old }
-    ensures items { live.new.items ≡ settled is_new id fate live.old.items }
+    ensures items { live.new.items ≡ with_outcome is_new id outcome live.old.items }
     ensures capacity { vec_capacity live.new ≡ vec_capacity live.old }
 {
-    match fate {
-        Fate::Unseen => {}
-        Fate::Over => {
+    match outcome {
+        StreamOutcome::NoStream => {}
+        StreamOutcome::Over => {
             if !is_new {
                 remove(live, id);
             }
         }
-        Fate::Alive(stream) => {
+        StreamOutcome::Alive(stream) => {
             if is_new {
                 live.push_reserved(stream);
             } else {

@@ -114,7 +114,7 @@ impl StreamSet {
         ensures { result ≡ is_open_in (at stream self.now) }
     {
         match live::find(self.live.as_slice(), stream) {
-            Some(found) => !found.is_ended_here,
+            Some(found) => !found.is_closed_local,
             None => false,
         }
     }
@@ -137,7 +137,7 @@ impl StreamSet {
     }
 
     /// What is to be granted so that the connection's window is whole again.
-    pub fn owed(&self) -> u32
+    pub fn owed_credit(&self) -> u32
         ensures { result ≡ self.now.limits.window - self.now.receive }
     {
         self.limits.window.saturating_sub(self.receive)
@@ -151,7 +151,7 @@ impl StreamSet {
     }
 
     /// The stream at this place among those that are live, and what is to be granted so that its window is whole again.
-    pub fn owed_at(&self, place: usize) -> Option<(u32, u32)>
+    pub fn owed_credit_at(&self, place: usize) -> Option<(u32, u32)>
         ensures { result ≡ option_map (λ s. (s.id, self.now.limits.window - s.receive)) (slice_get self.now.live place) }
     {
         let live = self.live.as_slice();
@@ -224,11 +224,11 @@ impl StreamSet {
         let Some(found) = live::find(self.live.as_slice(), stream) else {
             return;
         };
-        if found.is_ended_there {
+        if found.is_closed_remote {
             live::remove(&mut self.live, stream);
         } else {
             let ended = Stream {
-                is_ended_here: true,
+                is_closed_local: true,
                 ..found
             };
             live::put(&mut self.live, stream, ended);
@@ -265,7 +265,7 @@ impl StreamSet {
         let Some(found) = live::find(self.live.as_slice(), stream) else {
             return 0;
         };
-        if found.is_ended_here {
+        if found.is_closed_local {
             return 0;
         }
         let offset = u64::from(self.initial) + u64::from(found.room);

@@ -4,12 +4,12 @@ use Rattle.std.specs.Prelude.{replicate}
 use Rattle.std.proofs.lemmas.List.{append-nil, length-append, take_at, length-replicate, replicate_more}
 use Rattle.std.proofs.lemmas.Nat.{div_below, pow_pos}
 use Rattle.std.proofs.Math.Nat.{div-mul-le_self, lt-div-mul-add, pow-succ'}
-use Rattle.hpack_huffman.specs.declared.tables.Class.{Class}
+use Rattle.hpack_huffman.specs.declared.tables.LengthClass.{LengthClass}
 use Rattle.hpack_huffman.specs.declared.tables.TheConstants.{CLASSES}
 use Rattle.hpack_huffman.specs.Code.{to_bits, code_of, length_of, first_of}
 use Rattle.hpack_huffman.specs.Bits.{window_of}
 use Rattle.hpack_huffman.specs.Faults.{HasNoCode, IsPadding, BeginsWithEnd}
-use Rattle.hpack_huffman.specs.Tables.{IsAt, IsEnd, class_at}
+use Rattle.hpack_huffman.specs.Tables.{HasCodeAt, IsEnd, class_at}
 use Rattle.hpack_huffman.proofs.BitLaws.{bits_split, same_bits, window_top, powers, window_high}
 use Rattle.hpack_huffman.proofs.TableTest.{range_of, in_class, one_symbol}
 
@@ -66,10 +66,10 @@ fronts s count ahead behind more lt small enough e =
     let parts : first_of s ≡ w / width * width = r.whole ∙ ap (λ (k : ℕ). k * width) (sym same) in
     record { short = short; from = omega (arith, parts, low); upto = omega (arith, parts, high) }
 
-abbrev none_class : Option Class
+abbrev none_class : Option LengthClass
 none_class = None
 
-nothing : (c : Class) → none_class ≡ Some c → ⊥
+nothing : (c : LengthClass) → none_class ≡ Some c → ⊥
 nothing c e = absurd cc
 
 -- thirty one bits begin no code
@@ -80,7 +80,7 @@ no_code_at_end count ahead behind small enough end s lt more e =
     nothing i.0 (sym (ap (class_at CLASSES) end) ∙ i.1.here)
 
 -- nor do bits that are fewer than those of the one symbol that they could be
-pub no_code_short : (count ahead symbol l : ℕ) (behind : List ℕ) → ahead < 2 ^ count → (30 ≤ count) ⊎ (behind ≡ []) → IsAt symbol l (window_of count ahead) → count < l → HasNoCode (to_bits count ahead ++ behind)
+pub no_code_short : (count ahead symbol l : ℕ) (behind : List ℕ) → ahead < 2 ^ count → (30 ≤ count) ⊎ (behind ≡ []) → HasCodeAt symbol l (window_of count ahead) → count < l → HasNoCode (to_bits count ahead ++ behind)
 no_code_short count ahead symbol l behind small enough at long s lt more e =
     let f = fronts s count ahead behind more lt small enough e in
     let upto : window_of count ahead < first_of symbol + 2 ^ (30 - length_of symbol) = subst (λ (n : ℕ). window_of count ahead < first_of symbol + 2 ^ (30 - n)) (sym at.length_is) at.upto in

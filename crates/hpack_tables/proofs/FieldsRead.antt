@@ -10,7 +10,7 @@ use Rattle.hpack_tables.specs.declared.encoder.Style.{Style}
 use Rattle.hpack_tables.specs.declared.encoder.Style.TheVariants.{Plain, Indexed}
 use Rattle.hpack_tables.specs.declared.fault.HpackFault.{HpackFault}
 use Rattle.hpack_tables.specs.declared.fault.HpackFault.TheVariants.{BadInteger}
-use Rattle.hpack_tables.specs.Room.{size_of, fitting}
+use Rattle.hpack_tables.specs.EntrySizes.{size_of, fitting}
 use Rattle.hpack_tables.specs.Reading.{State, integer_at, entry_at, with_field, before, NameAt, IndexedAt, LiteralAt, ItemAt, BlockAt, StringAt}
 use Rattle.hpack_tables.specs.Reading.BlockAt.{ends, goes}
 use Rattle.hpack_tables.specs.Writing.{Encoder, integer_text, index_of, first_bits, prefix, update_text, IsString, IsName, IsFieldAs, AreFieldTexts}

@@ -4,7 +4,7 @@ use Rattle.std.proofs.lemmas.List.{append-nil}
 use Rattle.std.proofs.lemmas.List.Sums.{sum_by-cons}
 use Rattle.hpack_tables.specs.declared.field.Field.{Field}
 use Rattle.hpack_tables.specs.declared.encoder.Style.{Style}
-use Rattle.hpack_tables.specs.Room.{size_of}
+use Rattle.hpack_tables.specs.EntrySizes.{size_of}
 use Rattle.hpack_tables.specs.Writing.{IsFieldText, AreFieldTexts}
 
 -- what the fields that are left make of what was written so far is what all of them make

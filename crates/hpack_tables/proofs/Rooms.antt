@@ -3,7 +3,7 @@ use Rattle.std.proofs.Common.{◌≡◌, ℕ, ◌+◌, ◌-◌, ◌*◌, length,
 use Rattle.std.proofs.lemmas.Bool.{cases_lt, le-leb, lt-leb}
 use Rattle.std.proofs.lemmas.List.Sums.{sum_by-cons, sum_by_push}
 use Rattle.hpack_tables.specs.declared.field.Field.{Field}
-use Rattle.hpack_tables.specs.Room.{size_of, fitting}
+use Rattle.hpack_tables.specs.EntrySizes.{size_of, fitting}
 
 -- the oldest entry has no room where all together have none
 pub fitting_push : (room : ℕ) (xs : List Field) (y : Field) → room < sum_by size_of (xs ++ y ∷ []) → fitting room (xs ++ y ∷ []) ≡ fitting room xs

@@ -3,7 +3,7 @@ use Rattle.std.specs.Prelude.{◌≡◌, ℕ, ◌≤◌, Bool, true, false, List
 use Rattle.hpack_huffman.specs.Faults.{IsText}
 use Rattle.hpack_tables.specs.declared.field.Field.{Field}
 use Rattle.hpack_tables.specs.declared.fault.HpackFault.{HpackFault}
-use Rattle.hpack_tables.specs.Room.{size_of, fitting}
+use Rattle.hpack_tables.specs.EntrySizes.{size_of, fitting}
 use Rattle.hpack_tables.specs.Reading.{State, BlockAt}
 use Rattle.hpack_tables.specs.Writing.{Encoder, Writes, limited}
 

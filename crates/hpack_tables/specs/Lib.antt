@@ -1,12 +1,12 @@
 pub mod Answers
 pub mod Decoder
-pub mod Drafts
+pub mod EncodedBlocks
 pub mod Entries
 pub mod Laws
 pub mod Malformed
 pub mod Marks
 pub mod Progress
 pub mod Reading
-pub mod Room
+pub mod EntrySizes
 pub mod StaticTable
 pub mod Writing

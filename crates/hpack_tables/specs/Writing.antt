@@ -4,7 +4,7 @@ use Rattle.hpack_huffman.specs.Code.{IsHuffman}
 use Rattle.hpack_tables.specs.declared.field.Field.{Field}
 use Rattle.hpack_tables.specs.declared.encoder.Style.{Style}
 use Rattle.hpack_tables.specs.declared.encoder.Style.TheVariants.{Plain, Indexed}
-use Rattle.hpack_tables.specs.Room.{fitting}
+use Rattle.hpack_tables.specs.EntrySizes.{fitting}
 use Rattle.hpack_tables.specs.StaticTable.{static_table}
 
 -- ---- integers

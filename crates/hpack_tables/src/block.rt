@@ -1,5 +1,5 @@
 ghost use Rattle.std.specs.Prelude.{◌≡◌, ◌≤◌, sum_by};
-ghost use Rattle.hpack_tables.specs.Room.{size_of};
+ghost use Rattle.hpack_tables.specs.EntrySizes.{size_of};
 
 use crate::fields::Fields;
 use crate::table::Table;

@@ -1,6 +1,6 @@
 ghost use Rattle.std.specs.Prelude.{◌≡◌, ◌≤◌, [], None, IfOk, MatchResult, sum_by};
 ghost use Rattle.hpack_tables.specs.Decoder.{GivesFields, RefusesBlock};
-ghost use Rattle.hpack_tables.specs.Room.{size_of};
+ghost use Rattle.hpack_tables.specs.EntrySizes.{size_of};
 
 use crate::block::Progress;
 use crate::fault::HpackFault;

@@ -1,6 +1,6 @@
 //! The encoder of header blocks.
 ghost use Rattle.std.specs.Prelude.{◌≡◌, ◌≤◌, ◌++◌, List, ℕ, sum_by, IfOk, OnOk, OnErr};
-ghost use Rattle.hpack_tables.specs.Room.{size_of};
+ghost use Rattle.hpack_tables.specs.EntrySizes.{size_of};
 ghost use Rattle.hpack_tables.specs.Writing.{Encoder, Writes, fresh, limited};
 
 use crate::fields::Fields;
@@ -24,17 +24,17 @@ pub enum Style {
 
 /// A block that is written and not sent yet, and the table behind it.
 #[derive(Drop)]
-pub struct Draft {
+pub struct EncodedBlock {
     style: Style,
     table: Table,
     text: Vec<u8>,
 }
 
-impl Model for Draft {
+impl Model for EncodedBlock {
     ghost use Rattle.std.specs.Prelude.{false};
-    ghost use Rattle.hpack_tables.specs.Drafts.{Draft};
+    ghost use Rattle.hpack_tables.specs.EncodedBlocks.{EncodedBlock};
 
-    ghost Value = { Draft };
+    ghost Value = { EncodedBlock };
 
     ghost view = { λ d. record {
       text = d.text.items;
@@ -42,7 +42,7 @@ impl Model for Draft {
     } };
 }
 
-impl Draft {
+impl EncodedBlock {
     /// The bytes of the block.
     pub fn text(&self) -> &[u8]
         ensures { result.now ≡ self.now.text }
@@ -94,7 +94,7 @@ impl HeaderEncoder {
     }
 
     /// Writes the block of the fields, and leaves the encoder as it is until the block is kept.
-    pub fn draft(&self, fields: &Fields) -> Result<Draft, AllocError>
+    pub fn draft(&self, fields: &Fields) -> Result<EncodedBlock, AllocError>
         requires { sum_by size_of fields.now ≤ 65536 }
         ensures { IfOk result (λ draft. Writes self.now fields.now draft.text draft.after) }
     {
@@ -108,7 +108,7 @@ impl HeaderEncoder {
             fields.as_slice(),
             &mut text,
         )?;
-        Ok(Draft {
+        Ok(EncodedBlock {
             style: self.style,
             table,
             text,
@@ -116,10 +116,10 @@ impl HeaderEncoder {
     }
 
     /// Takes that a draft of this encoder was sent. Takes no memory.
-    pub fn keep(&mut self, draft: Draft)
+    pub fn keep(&mut self, draft: EncodedBlock)
         ensures { self.new ≡ draft.after }
     {
-        let Draft {
+        let EncodedBlock {
             style,
             table,
             text: _,

@@ -1,7 +1,7 @@
 ghost use Rattle.std.specs.Prelude.{◌≡◌, ◌∷◌, [], ◌<◌, ◌^◌, MatchOption, OnOk, IfOk, Ok, Err};
-ghost use Rattle.hpack_tables.specs.Answers.{Meets};
+ghost use Rattle.hpack_tables.specs.Answers.{IsAllowedBy};
 ghost use Rattle.hpack_tables.specs.Reading.{entry_at};
-ghost use Rattle.hpack_tables.specs.Room.{fitting, size_of};
+ghost use Rattle.hpack_tables.specs.EntrySizes.{fitting, size_of};
 ghost use Rattle.hpack_tables.specs.declared.fault.HpackFault.TheVariants.{BadIndex};
 
 use crate::fault::HpackFault;
@@ -28,7 +28,7 @@ impl Model for Table {
 
     ghost Value = { Entries };
 
-    ghost use Rattle.hpack_tables.specs.Room.{size_of};
+    ghost use Rattle.hpack_tables.specs.EntrySizes.{size_of};
 
     ghost view = { λ t. record { items = t.entries.items; max = t.max } };
 
@@ -102,7 +102,7 @@ impl Table {
 
     /// The static or dynamic entry of an index.
     pub fn get(&self, index: u32) -> Result<Field, HpackFault>
-        ensures { Meets (λ f. f) result (λ out. MatchOption (entry_at self.now.items index) (out ≡ Err BadIndex) (λ f. out ≡ Ok f)) }
+        ensures { IsAllowedBy (λ f. f) result (λ out. MatchOption (entry_at self.now.items index) (out ≡ Err BadIndex) (λ f. out ≡ Ok f)) }
     {
         if index == 0 {
             return Err(HpackFault::BadIndex);

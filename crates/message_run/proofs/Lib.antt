@@ -1,4 +1,4 @@
-pub mod Courses
+pub mod MessageTraces
 pub mod Streams
 pub mod Feeding
 pub mod Sinks

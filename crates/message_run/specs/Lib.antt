@@ -1,4 +1,4 @@
-pub mod Answering
+pub mod Behaviour
 pub mod Outcomes
 pub mod Written
 pub mod Runs

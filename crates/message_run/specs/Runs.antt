@@ -1,7 +1,7 @@
 -- What a run answers, takes and writes.
 use Rattle.std.specs.Prelude.{◌≡◌, ◌⊎◌, ℕ, List, [], ◌++◌, Option, Some, IfSome}
 use Rattle.std.specs.Option.{option_map}
-use Rattle.message_run.specs.Answering.{Answering}
+use Rattle.message_run.specs.Behaviour.{Behaviour}
 use Rattle.message_run.specs.Outcomes.{outcome_of, output_of, status_of, done_of}
 use Rattle.message_run.specs.Outcomes.{IsGoingOn}
 use Rattle.message_run.specs.Written.{Wrote, WrotePart}
@@ -33,7 +33,7 @@ told taken_before taken_after left_before left_after before after = record {
 }
 
 -- A run with this status, of a server that answers so. What it has done tells `has_done`, and with what it has left `has_left`.
-pub record Runs (f : Answering) (has_done has_left : List (List ℕ) → Type 0) (status : ℕ) (told : Told) : Type 0 where
+pub record Runs (f : Behaviour) (has_done has_left : List (List ℕ) → Type 0) (status : ℕ) (told : Told) : Type 0 where
   -- the bytes that the run took
   pub taken : List ℕ
   pub taken_is : told.taken_after ≡ option_map (λ given. given ++ taken) told.taken_before
@@ -52,7 +52,7 @@ pub record Runs (f : Answering) (has_done has_left : List (List ℕ) → Type 0)
   pub part : WrotePart told.before (output_of f taken) told.after
 
 -- The same of a source that tells its whole input.
-pub record RunsOver (f : Answering) (has_done has_left : List (List ℕ) → Type 0) (status : ℕ) (input : List ℕ) (told : Told) : Type 0 where
+pub record RunsOver (f : Behaviour) (has_done has_left : List (List ℕ) → Type 0) (status : ℕ) (input : List ℕ) (told : Told) : Type 0 where
   pub taken : List ℕ
   pub rest : List ℕ
   pub input_is : input ≡ taken ++ rest
@@ -61,7 +61,7 @@ pub record RunsOver (f : Answering) (has_done has_left : List (List ℕ) → Typ
   -- 0: the input is read and answered to its end, nothing of it is left, and all of its output was written
   pub done : status ≡ 0 → (status_of f input ≡ 0) × (rest ≡ []) × Wrote told.before (output_of f input) told.after
   -- 3: the input can't be read, and all of its output was written, the last item included
-  pub unread : status ≡ 3 → (status_of f input ≡ 3) × Wrote told.before (output_of f input) told.after
+  pub unreadable : status ≡ 3 → (status_of f input ≡ 3) × Wrote told.before (output_of f input) told.after
   -- 7: a reply ended the stream, and all of its output was written, the last item included
   pub refused : status ≡ 7 → (status_of f input ≡ 7) × Wrote told.before (output_of f input) told.after
   -- 0, 3 and 7: the server has left, with the messages of the input up to its end

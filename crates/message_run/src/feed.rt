@@ -1,15 +1,15 @@
 ghost use Rattle.std.specs.Prelude.{◌≡◌, ◌+◌, ◌<◌, ◌≤◌, ◌^◌, ◌++◌, List, ℕ, length, drop, IfSome, IfNone};
 ghost use Rattle.grpc_framing.specs.declared.front.Front.TheVariants.{NeedMore};
 ghost use Rattle.grpc_framing.specs.Framing.{front_at};
-ghost use Rattle.message_run.specs.Outcomes.{LIMIT};
-ghost use Rattle.message_run.specs.Reading.{Reads, Begins, Stops, IsOfMessages, close_of};
+ghost use Rattle.message_run.specs.Outcomes.{MESSAGE_LIMIT};
+ghost use Rattle.message_run.specs.Reading.{HandledSoFar, AnswersBegin, ClosesIfSome, IsOfMessages, close_of};
 
-use crate::answerer::{Answered, Answerer};
+use crate::message_handler::{Handled, MessageHandler};
 use crate::stop::Stop;
 use grpc_framing::{Front, front_of};
 
 /// How many bytes a message may have.
-const LONGEST_MESSAGE: u32 = 4_194_304;
+const MAX_MESSAGE_SIZE: u32 = 4_194_304;
 
 // Drops the first bytes.
 fn drop_front(bytes: &mut Vec<u8>, count: usize)
@@ -26,43 +26,45 @@ fn drop_front(bytes: &mut Vec<u8>, count: usize)
 
 /// Hands every whole message that is held to the server, which appends its answers to `out`. The held bytes begin at `start` in
 /// the input.
-pub fn feed<A: Answerer>(
+pub fn feed<A: MessageHandler>(
     server: &mut A,
     start: u64,
     held: &mut Vec<u8>,
     out: &mut Vec<u8>,
 ) -> Option<Stop>
-    requires reads { (bytes sent : List ℕ) × Reads (A.fate server.old) (A.stands server.old) bytes held.old.items (sent ++ out.old.items) × (length bytes ≡ start + length held.old.items) }
+    requires reads { (bytes sent : List ℕ) × HandledSoFar (A.response server.old) (A.stands server.old) bytes held.old.items (sent ++ out.old.items) × (length bytes ≡ start + length held.old.items) }
     requires short { start + length held.old.items < 2 ^ 61 }
-    ensures fate { A.fate server.new ≡ A.fate server.old }
-    ensures reads { (bytes sent : List ℕ) → Reads (A.fate server.old) (A.stands server.old) bytes held.old.items (sent ++ out.old.items) → length bytes ≡ start + length held.old.items →
-        IfNone result (Reads (A.fate server.old) (A.stands server.new) bytes held.new.items (sent ++ out.new.items)) }
-    ensures partial { IfNone result (front_at LIMIT held.new.items ≡ NeedMore) }
-    ensures stops { (bytes sent : List ℕ) → Reads (A.fate server.old) (A.stands server.old) bytes held.old.items (sent ++ out.old.items) → length bytes ≡ start + length held.old.items →
-        IfSome result (λ stop. Stops (A.fate server.old) (A.stands server.new) bytes (sent ++ out.new.items) (close_of stop)) }
-    ensures begins { (bytes sent : List ℕ) → Reads (A.fate server.old) (A.stands server.old) bytes held.old.items (sent ++ out.old.items) → length bytes ≡ start + length held.old.items →
-        Begins (A.fate server.old) bytes (sent ++ out.new.items) }
+    ensures response { A.response server.new ≡ A.response server.old }
+    ensures reads { (bytes sent : List ℕ) → HandledSoFar (A.response server.old) (A.stands server.old) bytes held.old.items (sent ++ out.old.items) → length bytes ≡ start + length held.old.items →
+        IfNone result (HandledSoFar (A.response server.old) (A.stands server.new) bytes held.new.items (sent ++ out.new.items)) }
+    ensures partial { IfNone result (front_at MESSAGE_LIMIT held.new.items ≡ NeedMore) }
+    ensures stops { (bytes sent : List ℕ) → HandledSoFar (A.response server.old) (A.stands server.old) bytes held.old.items (sent ++ out.old.items) → length bytes ≡ start + length held.old.items →
+        IfSome result (λ stop. ClosesIfSome (A.response server.old) (A.stands server.new) bytes (sent ++ out.new.items) (close_of stop)) }
+    ensures begins { (bytes sent : List ℕ) → HandledSoFar (A.response server.old) (A.stands server.old) bytes held.old.items (sent ++ out.old.items) → length bytes ≡ start + length held.old.items →
+        AnswersBegin (A.response server.old) bytes (sent ++ out.new.items) }
     ensures kinds { IfSome result IsOfMessages }
 {
     let mut at = 0;
     loop {
         let (_, rest) = held.split_at(at);
-        match front_of(LONGEST_MESSAGE, rest) {
+        match front_of(MAX_MESSAGE_SIZE, rest) {
             Front::Message(size) => {
                 let (_, text) = rest.split_at(5);
                 let (message, _) = text.split_at(size);
-                match server.answer(message, out) {
-                    Answered::GoesOn => at += 5 + size,
-                    Answered::Ends(code) => return Some(Stop::Refused(code)),
-                    Answered::Unread(place) => {
-                        return Some(Stop::Unread(start as u128 + at as u128 + 5 + place as u128));
+                match server.handle(message, out) {
+                    Handled::Continue => at += 5 + size,
+                    Handled::Ends(code) => return Some(Stop::Refused(code)),
+                    Handled::Unreadable(place) => {
+                        return Some(Stop::Unreadable(
+                            start as u128 + at as u128 + 5 + place as u128,
+                        ));
                     }
-                    Answered::NoMemory => return Some(Stop::NoMemory),
+                    Handled::NoMemory => return Some(Stop::NoMemory),
                 }
             }
             Front::NeedMore => break,
-            Front::Compressed => return Some(Stop::Unread(start as u128 + at as u128)),
-            Front::TooLong => return Some(Stop::Unread(start as u128 + at as u128)),
+            Front::Compressed => return Some(Stop::Unreadable(start as u128 + at as u128)),
+            Front::TooLong => return Some(Stop::Unreadable(start as u128 + at as u128)),
         }
     }
     drop_front(held, at);

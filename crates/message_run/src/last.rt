@@ -1,12 +1,12 @@
 ghost use Rattle.std.specs.Prelude.{◌≡◌, OnOk};
-ghost use Rattle.message_run.specs.Outcomes.{last_item as item_said};
+ghost use Rattle.message_run.specs.Outcomes.{trailer as trailer_spec};
 
 use itoa::Buffer;
 use std::alloc::AllocError;
 
 /// Makes `out` a last item.
-pub fn last_item(flag: u8, number: u128, out: &mut Vec<u8>) -> Result<(), AllocError>
-    ensures { OnOk result (out.new.items ≡ item_said flag number) }
+pub fn trailer(flag: u8, number: u128, out: &mut Vec<u8>) -> Result<(), AllocError>
+    ensures { OnOk result (out.new.items ≡ trailer_spec flag number) }
 {
     let mut buffer = Buffer::new();
     let digits = buffer.format(number).as_bytes();

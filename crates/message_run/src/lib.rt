@@ -2,14 +2,14 @@
 //! last item tells what ended the run.
 #![tactic(auto)]
 
-mod answerer;
 mod feed;
 mod last;
+mod message_handler;
 mod piece;
 mod put;
 mod stop;
 mod stream;
 
-pub use answerer::{Answered, Answerer};
-pub use put::put_all;
+pub use message_handler::{Handled, MessageHandler};
+pub use put::write_all;
 pub use stream::run;

@@ -1,16 +1,16 @@
 ghost use Rattle.std.specs.Prelude.{◌≡◌, ◌+◌, ◌<◌, ◌^◌, ◌++◌, List, ℕ, Option, length, MatchOption, IfSome, Some};
 ghost use Rattle.rig_io.specs.Fault.{HasCause, StaysUnless};
-ghost use Rattle.message_run.specs.Reading.{Goes, StopsAt, IsOfPieces};
+ghost use Rattle.message_run.specs.Reading.{RunContinues, RunStops, IsOfPieces};
 ghost use Rattle.message_run.specs.declared.stop.Stop.TheVariants.{WriteFault};
 
-use crate::answerer::Answerer;
 use crate::feed::feed;
-use crate::put::put_all;
+use crate::message_handler::MessageHandler;
+use crate::put::write_all;
 use crate::stop::Stop;
 use rig_io::Sink;
 
 /// Acts on one more piece of the input, behind `taken` bytes, and writes the answers, which are gathered in `out`.
-pub fn serve_piece<A: Answerer, K: Sink>(
+pub fn handle_chunk<A: MessageHandler, K: Sink>(
     server: &mut A,
     taken: u64,
     held: &mut Vec<u8>,
@@ -18,12 +18,12 @@ pub fn serve_piece<A: Answerer, K: Sink>(
     out: &mut Vec<u8>,
     output: &mut K,
 ) -> Option<Stop>
-    requires goes { (bytes : List ℕ) × (before : Option (List ℕ)) × Goes (A.fate server.old) (A.stands server.old) bytes held.old.items before (K.placed output.old) × (length bytes ≡ taken) }
+    requires goes { (bytes : List ℕ) × (before : Option (List ℕ)) × RunContinues (A.response server.old) (A.stands server.old) bytes held.old.items before (K.placed output.old) × (length bytes ≡ taken) }
     requires short { taken + length piece.now < 2 ^ 61 }
-    ensures fate { A.fate server.new ≡ A.fate server.old }
-    ensures cases { (bytes : List ℕ) → (before : Option (List ℕ)) → Goes (A.fate server.old) (A.stands server.old) bytes held.old.items before (K.placed output.old) → length bytes ≡ taken →
-        MatchOption result (Goes (A.fate server.old) (A.stands server.new) (bytes ++ piece.now) held.new.items before (K.placed output.new))
-        (λ stop. StopsAt (A.fate server.old) (A.stands server.new) (bytes ++ piece.now) before stop (K.placed output.new)) }
+    ensures response { A.response server.new ≡ A.response server.old }
+    ensures cases { (bytes : List ℕ) → (before : Option (List ℕ)) → RunContinues (A.response server.old) (A.stands server.old) bytes held.old.items before (K.placed output.old) → length bytes ≡ taken →
+        MatchOption result (RunContinues (A.response server.old) (A.stands server.new) (bytes ++ piece.now) held.new.items before (K.placed output.new))
+        (λ stop. RunStops (A.response server.old) (A.stands server.new) (bytes ++ piece.now) before stop (K.placed output.new)) }
     ensures kinds { IfSome result IsOfPieces }
     ensures cause { HasCause (K.faults output.old) (K.faults output.new) (result ≡ Some WriteFault) }
     ensures stays { StaysUnless (K.faults output.old) (K.faults output.new) (result ≡ Some WriteFault) }
@@ -34,7 +34,7 @@ pub fn serve_piece<A: Answerer, K: Sink>(
     }
     out.clear();
     let fed = feed(server, start, held, out);
-    if !put_all(output, out) {
+    if !write_all(output, out) {
         return Some(Stop::WriteFault);
     }
     fed

@@ -5,7 +5,7 @@ ghost use Rattle.message_run.specs.Written.{Wrote, WrotePart};
 use rig_io::{Placed, Sink};
 
 /// Places all of the piece, unless the sink fails: then what was placed is the piece's front.
-pub fn put_all<K: Sink>(output: &mut K, piece: &[u8]) -> bool
+pub fn write_all<K: Sink>(output: &mut K, piece: &[u8]) -> bool
     ensures all { result ≡ true → Wrote (K.placed output.old) piece.now (K.placed output.new) }
     ensures part { WrotePart (K.placed output.old) piece.now (K.placed output.new) }
     ensures cause { HasCause (K.faults output.old) (K.faults output.new) (result ≡ false) }

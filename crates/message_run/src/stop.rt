@@ -9,7 +9,7 @@ pub enum Stop {
     /// A reply ended the stream, with this status number of gRPC.
     Refused(u8),
     /// The input can't be read at this place. It may pass 64 bits, since a message's place may be any number.
-    Unread(u128),
+    Unreadable(u128),
     /// Reading failed.
     ReadFault,
     /// Writing failed.
@@ -26,7 +26,7 @@ impl Stop {
         match self {
             Stop::Finished => true,
             Stop::Refused(_) => true,
-            Stop::Unread(_) => true,
+            Stop::Unreadable(_) => true,
             Stop::ReadFault => false,
             Stop::WriteFault => false,
             Stop::NoMemory => false,

@@ -1,29 +1,29 @@
 ghost use Rattle.std.specs.Prelude.{◌≡◌, ◌⊎◌, ◌+◌, ◌<◌, ◌≤◌, ◌^◌, [], List, ℕ, Some, None, IfOk, length, vec_len, ◌==◌, if◌then◌else◌};
 ghost use Rattle.rig_io.specs.Fault.{HasCause, StaysUnless};
-ghost use Rattle.message_run.specs.Outcomes.{Close, last_item as item_said};
+ghost use Rattle.message_run.specs.Outcomes.{Close, trailer as trailer_spec};
 ghost use Rattle.message_run.specs.Reading.{Stopped, close_of, stop_at as stop_said};
 ghost use Rattle.message_run.specs.Runs.{Told, Runs, RunsOver, IsStatus, told};
 ghost use Rattle.message_run.specs.Written.{Wrote, WrotePart};
 ghost use Rattle.message_run.specs.declared.stop.Stop.TheVariants.{ReadFault, WriteFault};
 
-use crate::answerer::Answerer;
-use crate::last::last_item;
-use crate::piece::serve_piece;
-use crate::put::put_all;
+use crate::last::trailer;
+use crate::message_handler::MessageHandler;
+use crate::piece::handle_chunk;
+use crate::put::write_all;
 use crate::stop::Stop;
 use rig_io::{Sink, Source, Took};
 use std::alloc::{AllocError, Global};
 
 /// How many bytes an input may have.
-const LONGEST: u64 = 1_099_511_627_776;
+const MAX_INPUT_SIZE: u64 = 1_099_511_627_776;
 
 /// How many bytes are taken at a time.
-const ROOM: usize = 65_536;
+const BUFFER_SIZE: usize = 65_536;
 
-fn room_for_pieces(alloc: Global) -> Result<Vec<u8>, AllocError>
+fn new_buffer(alloc: Global) -> Result<Vec<u8>, AllocError>
     ensures { IfOk result (λ room. vec_len room ≡ 65536) }
 {
-    vec![in alloc; 0u8; ROOM]
+    vec![in alloc; 0u8; BUFFER_SIZE]
 }
 
 // What ends a run at the end of an input of so many bytes.
@@ -34,12 +34,12 @@ fn stop_at_end(taken: u64, held: &[u8]) -> Stop
     if held.is_empty() {
         Stop::Finished
     } else {
-        Stop::Unread((taken - held.len() as u64) as u128)
+        Stop::Unreadable((taken - held.len() as u64) as u128)
     }
 }
 
 // Serves the input piece by piece, up to its end or what ends the run.
-fn serve_all<A: Answerer, S: Source, K: Sink>(
+fn handle_stream<A: MessageHandler, S: Source, K: Sink>(
     alloc: Global,
     server: &mut A,
     buffer: &mut [u8],
@@ -49,8 +49,8 @@ fn serve_all<A: Answerer, S: Source, K: Sink>(
 ) -> Stop
     requires first { A.stands server.old [] }
     requires room { length buffer.old ≡ 65536 }
-    ensures fate { A.fate server.new ≡ A.fate server.old }
-    ensures stopped { Stopped (A.fate server.old) (A.stands server.new) result (told (S.taken input.old) (S.taken input.new) (S.left input.old) (S.left input.new) (K.placed output.old) (K.placed output.new)) }
+    ensures response { A.response server.new ≡ A.response server.old }
+    ensures stopped { Stopped (A.response server.old) (A.stands server.new) result (told (S.taken input.old) (S.taken input.new) (S.left input.old) (S.left input.new) (K.placed output.old) (K.placed output.new)) }
     ensures read { HasCause (S.faults input.old) (S.faults input.new) (result ≡ ReadFault) }
     ensures read_stays { StaysUnless (S.faults input.old) (S.faults input.new) (result ≡ ReadFault) }
     ensures write { HasCause (K.faults output.old) (K.faults output.new) (result ≡ WriteFault) }
@@ -59,17 +59,17 @@ fn serve_all<A: Answerer, S: Source, K: Sink>(
     let mut held = Vec::new(alloc);
     let mut taken = 0;
     loop {
-        let room = (LONGEST - taken).min(ROOM as u64).max(1) as usize;
+        let room = (MAX_INPUT_SIZE - taken).min(BUFFER_SIZE as u64).max(1) as usize;
         let piece = &mut buffer[..room];
         match input.take(piece) {
             Took::Failed => return Stop::ReadFault,
             Took::End => return stop_at_end(taken, &held),
             Took::Got(count) => {
-                if taken == LONGEST {
-                    return Stop::Unread(LONGEST as u128);
+                if taken == MAX_INPUT_SIZE {
+                    return Stop::Unreadable(MAX_INPUT_SIZE as u128);
                 }
                 let (front, _) = piece.split_at(count);
-                if let Some(stop) = serve_piece(server, taken, &mut held, front, out, output) {
+                if let Some(stop) = handle_chunk(server, taken, &mut held, front, out, output) {
                     return stop;
                 }
                 taken += count as u64;
@@ -79,9 +79,9 @@ fn serve_all<A: Answerer, S: Source, K: Sink>(
 }
 
 // The server leaves where the run closes.
-fn leave_at<A: Answerer>(server: &mut A, stop: Stop)
+fn leave_at<A: MessageHandler>(server: &mut A, stop: Stop)
     requires { (close : Close) → close_of stop ≡ Some close → (done : List (List ℕ)) × A.stands server.old done × (length done < 2 ^ 61) }
-    ensures fate { A.fate server.new ≡ A.fate server.old }
+    ensures response { A.response server.new ≡ A.response server.old }
     ensures left { (close : Close) → close_of stop ≡ Some close → (done : List (List ℕ)) → A.stands server.old done → length done < 2 ^ 61 → A.left server.new done }
     ensures stays { close_of stop ≡ None → server.new ≡ server.old }
 {
@@ -94,20 +94,20 @@ fn leave_at<A: Answerer>(server: &mut A, stop: Stop)
 fn close<K: Sink>(status: u8, flag: u8, number: u128, out: &mut Vec<u8>, output: &mut K) -> u8
     requires { status < 5 ⊎ (status ≡ 7) }
     ensures status { (result ≡ status) ⊎ (result ≡ 5) ⊎ (result ≡ 6) }
-    ensures whole { result ≡ status → Wrote (K.placed output.old) (item_said flag number) (K.placed output.new) }
-    ensures part { WrotePart (K.placed output.old) (item_said flag number) (K.placed output.new) }
+    ensures whole { result ≡ status → Wrote (K.placed output.old) (trailer_spec flag number) (K.placed output.new) }
+    ensures part { WrotePart (K.placed output.old) (trailer_spec flag number) (K.placed output.new) }
     ensures lacks { result ≡ 6 → K.placed output.new ≡ K.placed output.old }
     ensures cause { HasCause (K.faults output.old) (K.faults output.new) (result ≡ 5) }
     ensures stays { StaysUnless (K.faults output.old) (K.faults output.new) (result ≡ 5) }
 {
-    match last_item(flag, number, out) {
-        Ok(()) => { if put_all(output, out) { status } else { 5 } }
+    match trailer(flag, number, out) {
+        Ok(()) => { if write_all(output, out) { status } else { 5 } }
         Err(_) => 6,
     }
 }
 
 // The whole run: where it closes, the server leaves, and the last item is written.
-fn run_in<A: Answerer, S: Source, K: Sink>(
+fn run_in<A: MessageHandler, S: Source, K: Sink>(
     alloc: Global,
     server: &mut A,
     buffer: &mut [u8],
@@ -116,8 +116,8 @@ fn run_in<A: Answerer, S: Source, K: Sink>(
 ) -> u8
     requires first { A.stands server.old [] }
     requires room { length buffer.old ≡ 65536 }
-    ensures fate { A.fate server.new ≡ A.fate server.old }
-    ensures runs { Runs (A.fate server.old) (A.stands server.new) (A.left server.new) result (told (S.taken input.old) (S.taken input.new) (S.left input.old) (S.left input.new) (K.placed output.old) (K.placed output.new)) }
+    ensures response { A.response server.new ≡ A.response server.old }
+    ensures runs { Runs (A.response server.old) (A.stands server.new) (A.left server.new) result (told (S.taken input.old) (S.taken input.new) (S.left input.old) (S.left input.new) (K.placed output.old) (K.placed output.new)) }
     ensures status { IsStatus result }
     ensures read { HasCause (S.faults input.old) (S.faults input.new) (result ≡ 4) }
     ensures read_stays { StaysUnless (S.faults input.old) (S.faults input.new) (result ≡ 4) }
@@ -125,12 +125,12 @@ fn run_in<A: Answerer, S: Source, K: Sink>(
     ensures write_stays { StaysUnless (K.faults output.old) (K.faults output.new) (result ≡ 5) }
 {
     let mut out = Vec::new(alloc);
-    let stop = serve_all(alloc, server, buffer, &mut out, input, output);
+    let stop = handle_stream(alloc, server, buffer, &mut out, input, output);
     leave_at(server, stop);
     match stop {
         Stop::Finished => 0,
         Stop::Refused(code) => close(7, 0x80, code as u128, &mut out, output),
-        Stop::Unread(place) => close(3, 0x81, place, &mut out, output),
+        Stop::Unreadable(place) => close(3, 0x81, place, &mut out, output),
         Stop::ReadFault => 4,
         Stop::WriteFault => 5,
         Stop::NoMemory => 6,
@@ -144,18 +144,18 @@ fn run_in<A: Answerer, S: Source, K: Sink>(
 ///
 /// Answers 0 where the input was read and answered to its end, 3 where it can't be read, 4 and 5 where the input or the output
 /// failed, 6 for want of memory, and 7 where a reply ended the stream. An input past 2^40 bytes can't be read at that place.
-pub fn run<A: Answerer, S: Source, K: Sink>(
+pub fn run<A: MessageHandler, S: Source, K: Sink>(
     alloc: Global,
     server: &mut A,
     input: &mut S,
     output: &mut K,
 ) -> u8
     requires first { A.stands server.old [] }
-    ensures fate { A.fate server.new ≡ A.fate server.old }
+    ensures response { A.response server.new ≡ A.response server.old }
     // What is written is a function of the bytes that were taken, whether or not the source tells what is left.
-    ensures runs { Runs (A.fate server.old) (A.stands server.new) (A.left server.new) result (told (S.taken input.old) (S.taken input.new) (S.left input.old) (S.left input.new) (K.placed output.old) (K.placed output.new)) }
+    ensures runs { Runs (A.response server.old) (A.stands server.new) (A.left server.new) result (told (S.taken input.old) (S.taken input.new) (S.left input.old) (S.left input.new) (K.placed output.old) (K.placed output.new)) }
     // Where the source tells its input, it is a function of the input.
-    ensures over { (all : List ℕ) → S.left input.old ≡ Some all → RunsOver (A.fate server.old) (A.stands server.new) (A.left server.new) result all (told (S.taken input.old) (S.taken input.new) (S.left input.old) (S.left input.new) (K.placed output.old) (K.placed output.new)) }
+    ensures over { (all : List ℕ) → S.left input.old ≡ Some all → RunsOver (A.response server.old) (A.stands server.new) (A.left server.new) result all (told (S.taken input.old) (S.taken input.new) (S.left input.old) (S.left input.new) (K.placed output.old) (K.placed output.new)) }
     ensures status { IsStatus result }
     // No failure is hidden: a status but 4 leaves the input's faults, and one but 5 the output's.
     ensures read { HasCause (S.faults input.old) (S.faults input.new) (result ≡ 4) }
@@ -163,7 +163,7 @@ pub fn run<A: Answerer, S: Source, K: Sink>(
     ensures write { HasCause (K.faults output.old) (K.faults output.new) (result ≡ 5) }
     ensures write_stays { StaysUnless (K.faults output.old) (K.faults output.new) (result ≡ 5) }
 {
-    let Ok(mut buffer) = room_for_pieces(alloc) else {
+    let Ok(mut buffer) = new_buffer(alloc) else {
         return 6;
     };
     run_in(alloc, server, &mut buffer, input, output)

@@ -1,4 +1,4 @@
-use gribi_program::{Reading, Writing};
+use gribi_program::{ReaderSource, WriterSink};
 use rig_io::{Placed, Sink, Source, Took};
 use std::io::{self, Cursor, Read, Write};
 use std::test::Fail;
@@ -40,22 +40,22 @@ impl Write for Unflushed {
 #[test]
 fn readers_are_sources(rt: HostRuntime) -> Result<(), Fail> {
     let mut buffer = [0u8; 4];
-    let mut three = Reading::new(Cursor::new(b"abc".as_slice()));
+    let mut three = ReaderSource::new(Cursor::new(b"abc".as_slice()));
     assert_eq!(rt; three.take(&mut buffer), Took::Got(3));
     assert_eq!(rt; buffer, *b"abc\0");
     assert_eq!(rt; three.take(&mut buffer), Took::End);
-    assert_eq!(rt; Reading::new(Broken).take(&mut buffer), Took::Failed);
+    assert_eq!(rt; ReaderSource::new(Broken).take(&mut buffer), Took::Failed);
     Ok(())
 }
 
 #[test]
 fn writers_are_sinks(rt: HostRuntime) -> Result<(), Fail> {
     let mut room = [0u8; 3];
-    let mut three = Writing::new(Cursor::new(room.as_mut_slice()));
+    let mut three = WriterSink::new(Cursor::new(room.as_mut_slice()));
     assert_eq!(rt; three.put(b"ab"), Placed::Put(2));
     assert_eq!(rt; three.put(b"cd"), Placed::Put(1));
     assert_eq!(rt; three.put(b"d"), Placed::Failed);
-    assert_eq!(rt; Writing::new(Broken).put(b"a"), Placed::Failed);
-    assert_eq!(rt; Writing::new(Unflushed).put(b"a"), Placed::Failed);
+    assert_eq!(rt; WriterSink::new(Broken).put(b"a"), Placed::Failed);
+    assert_eq!(rt; WriterSink::new(Unflushed).put(b"a"), Placed::Failed);
     Ok(())
 }

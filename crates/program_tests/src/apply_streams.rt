@@ -1,6 +1,6 @@
 use crate::session_orders::setting;
-use apply_path::{Session, answers_are_the_servers, apply_stream, put_all};
-use message_run::{Answered, Answerer};
+use apply_path::{Session, answers_match_the_server, apply_stream, write_all};
+use message_run::{Handled, MessageHandler};
 use rig_io::{MemSink, MemSource};
 use std::test::Fail;
 
@@ -25,25 +25,25 @@ fn instances_are_those_of_the_setting(rt: HostRuntime) -> Result<(), Fail> {
 #[test]
 fn a_message_goes_on_or_ends_the_stream(rt: HostRuntime) -> Result<(), Fail> {
     let setting = setting(rt.alloc(), &["DEFAULT"])?;
-    let cases: [(&[u8], Answered, &[u8]); 5] = [
-        (b"", Answered::GoesOn, b""),
-        (b"\x1a\x02\x10\x01\x00\x01", Answered::Unread(4), b""),
+    let cases: [(&[u8], Handled, &[u8]); 5] = [
+        (b"", Handled::Continue, b""),
+        (b"\x1a\x02\x10\x01\x00\x01", Handled::Unreadable(4), b""),
         (
             b"\x12\x04\x08\x01\x10\x01",
-            Answered::GoesOn,
+            Handled::Continue,
             b"\0\0\0\0\x04\x12\x02\x08\x01",
         ),
         (
             b"\x12\x04\x08\x01\x10\x01\x1a\x00",
-            Answered::Ends(3),
+            Handled::Ends(3),
             b"\0\0\0\0\x04\x12\x02\x08\x01",
         ),
-        (b"\x12\x00", Answered::Ends(12), b""),
+        (b"\x12\x00", Handled::Ends(12), b""),
     ];
     for (message, wanted, answers) in cases {
         let mut session = Session::new(rt.alloc(), &setting)?;
         let mut out = Vec::new(rt.alloc());
-        assert_eq!(rt; session.answer(message, &mut out), wanted);
+        assert_eq!(rt; session.handle(message, &mut out), wanted);
         assert_eq!(rt; out.as_slice(), answers);
     }
     Ok(())
@@ -51,9 +51,9 @@ fn a_message_goes_on_or_ends_the_stream(rt: HostRuntime) -> Result<(), Fail> {
 
 #[test]
 fn answers_stand_in_the_output(rt: HostRuntime) -> Result<(), Fail> {
-    answers_are_the_servers();
+    answers_match_the_server();
     let mut sink = MemSink::new(rt.alloc(), Vec::new(rt.alloc()));
-    assert!(rt; put_all(&mut sink, b"abc"));
+    assert!(rt; write_all(&mut sink, b"abc"));
     assert_eq!(rt; sink.bytes(), b"abc".as_slice());
     Ok(())
 }

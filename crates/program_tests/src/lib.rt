@@ -6,7 +6,7 @@ mod adapters;
 #[cfg(test)]
 mod apply_streams;
 #[cfg(test)]
-mod drip;
+mod chunked_source;
 #[cfg(test)]
 mod message_streams;
 #[cfg(test)]

@@ -1,5 +1,5 @@
-use crate::drip::Drip;
-use message_run::{Answered, Answerer, put_all, run};
+use crate::chunked_source::ChunkedSource;
+use message_run::{Handled, MessageHandler, run, write_all};
 use rig_io::{MemSink, MemSource};
 use std::alloc::Global;
 use std::test::Fail;
@@ -10,12 +10,12 @@ struct Echo {
     has_left: bool,
 }
 
-impl Answerer for Echo {
+impl MessageHandler for Echo {
     ghost use Rattle.std.specs.Prelude.{◌≡◌, ◌∷◌, [], Some, None, true, if◌then◌else◌};
     ghost use Rattle.std.specs.Str.{bytes_eq};
-    ghost use Rattle.message_run.specs.Answering.{Reply, Field};
+    ghost use Rattle.message_run.specs.Behaviour.{Reply, Field};
 
-    ghost fate = { λ _ done message.
+    ghost response = { λ _ done message.
         if bytes_eq message (8 ∷ []) then record { written = []; ending = Some (Field 2) } else
         if bytes_eq message (9 ∷ []) then record { written = message; ending = Some (Reply 9) } else
         record { written = message; ending = None } };
@@ -24,17 +24,17 @@ impl Answerer for Echo {
 
     ghost left = { λ s done. s.has_left ≡ true };
 
-    fn answer(&mut self, message: &[u8], out: &mut Vec<u8>) -> Answered {
+    fn handle(&mut self, message: &[u8], out: &mut Vec<u8>) -> Handled {
         if message == b"\x08".as_slice() {
-            return Answered::Unread(2);
+            return Handled::Unreadable(2);
         }
         if out.extend_from_slice(message).is_err() {
-            return Answered::NoMemory;
+            return Handled::NoMemory;
         }
         if message == b"\x09".as_slice() {
-            Answered::Ends(9)
+            Handled::Ends(9)
         } else {
-            Answered::GoesOn
+            Handled::Continue
         }
     }
 
@@ -138,7 +138,7 @@ fn failures_have_their_status(rt: HostRuntime) -> Result<(), Fail> {
 fn any_pieces_come_to_the_same(rt: HostRuntime) -> Result<(), Fail> {
     let input = b"\0\0\0\0\x02ab\0\0\0\0\x01\x08c".as_slice();
     for size in 1..15 {
-        let mut pieces = Drip { rest: input, size };
+        let mut pieces = ChunkedSource { rest: input, size };
         let mut sink = MemSink::new(rt.alloc(), Vec::new(rt.alloc()));
         let mut server = Echo { has_left: false };
         assert_eq!(rt; run(rt.alloc(), &mut server, &mut pieces, &mut sink), 3);
@@ -151,9 +151,9 @@ fn any_pieces_come_to_the_same(rt: HostRuntime) -> Result<(), Fail> {
 #[test]
 fn a_piece_is_put_whole(rt: HostRuntime) -> Result<(), Fail> {
     let mut sink = MemSink::new(rt.alloc(), vec![in rt.alloc(); 1u64]?);
-    assert!(rt; put_all(&mut sink, b"abc"));
-    assert!(rt; !put_all(&mut sink, b"d"));
-    assert!(rt; put_all(&mut sink, b""));
+    assert!(rt; write_all(&mut sink, b"abc"));
+    assert!(rt; !write_all(&mut sink, b"d"));
+    assert!(rt; write_all(&mut sink, b""));
     assert_eq!(rt; sink.bytes(), b"abc".as_slice());
     Ok(())
 }

@@ -1,4 +1,4 @@
-use crate::drip::Drip;
+use crate::chunked_source::ChunkedSource;
 use crate::program_words::words;
 use gribi_program::gribi_main;
 use rig_io::{MemSink, MemSource};
@@ -55,9 +55,9 @@ const ENDED_9: &[u8] = b"\x80\0\0\0\x019";
 
 const ENDED_12: &[u8] = b"\x80\0\0\0\x0212";
 
-const UNREAD_11: &[u8] = b"\x81\0\0\0\x0211";
+const UNREADABLE_11: &[u8] = b"\x81\0\0\0\x0211";
 
-const UNREAD_20: &[u8] = b"\x81\0\0\0\x0220";
+const UNREADABLE_20: &[u8] = b"\x81\0\0\0\x0220";
 
 fn joined(alloc: Global, parts: &[&[u8]]) -> Result<Vec<u8>, Fail> {
     let mut bytes = Vec::new(alloc);
@@ -126,10 +126,16 @@ fn a_reply_may_end_the_stream(rt: HostRuntime) -> Result<(), Fail> {
 fn an_input_that_cannot_be_read_tells_the_place(rt: HostRuntime) -> Result<(), Fail> {
     let cut = HOP.split_at(29).0;
     let cases: [(&[&[u8]], &[&[u8]]); 3] = [
-        (&[PARAMS, ELECTION, cut], &[PARAMS_SET, ELECTED, UNREAD_20]),
-        (&[PARAMS, COMPRESSED, ELECTION], &[PARAMS_SET, UNREAD_11]),
+        (
+            &[PARAMS, ELECTION, cut],
+            &[PARAMS_SET, ELECTED, UNREADABLE_20],
+        ),
+        (
+            &[PARAMS, COMPRESSED, ELECTION],
+            &[PARAMS_SET, UNREADABLE_11],
+        ),
         // a message with a fault gives none of its answers
-        (&[PARAMS, BAD_TAG, ELECTION], &[PARAMS_SET, UNREAD_20]),
+        (&[PARAMS, BAD_TAG, ELECTION], &[PARAMS_SET, UNREADABLE_20]),
     ];
     for (input, answers) in cases {
         assert!(rt; is_answered(rt.alloc(), input, 3, answers)?);
@@ -143,7 +149,7 @@ fn any_pieces_are_answered_alike(rt: HostRuntime) -> Result<(), Fail> {
     let input = joined(alloc, &[PARAMS, ELECTION, HOP])?;
     let wanted = joined(alloc, &[PARAMS_SET, ELECTED, PROGRAMMED])?;
     for size in 1..51 {
-        let mut pieces = Drip { rest: &input, size };
+        let mut pieces = ChunkedSource { rest: &input, size };
         let mut output = MemSink::new(alloc, Vec::new(alloc));
         let status = gribi_main(alloc, &words(alloc, &["apply"])?, &mut pieces, &mut output);
         assert_eq!(rt; status, 0);

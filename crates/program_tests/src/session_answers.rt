@@ -1,13 +1,13 @@
 use aft_entries::Reason;
+use call_answers::{answer_of, end_of};
 use schema_numbers::default_numbering;
-use session_engine::{answer_of, end_of};
 use std::alloc::Global;
 use std::collections::LinkedList;
 use std::test::Fail;
 use table_model::{Batch, FibResult, Reply};
 
 // Whether the reply to operation 1 of the third message is owed these bytes.
-fn is_owed(alloc: Global, reply: &Reply, wanted: &[u8]) -> Result<bool, Fail> {
+fn has_response(alloc: Global, reply: &Reply, wanted: &[u8]) -> Result<bool, Fail> {
     let n = default_numbering(alloc)?;
     match answer_of(alloc, &n, 1, 3, reply)? {
         None => Ok(wanted.is_empty()),
@@ -17,10 +17,10 @@ fn is_owed(alloc: Global, reply: &Reply, wanted: &[u8]) -> Result<bool, Fail> {
 
 #[test]
 fn replies_are_answered(rt: HostRuntime) -> Result<(), Fail> {
-    assert!(rt; is_owed(rt.alloc(), &Reply::ParamsSet, b"\x12\x02\x08\x01")?);
-    assert!(rt; is_owed(rt.alloc(), &Reply::Announced(1), b"\x1a\x02\x10\x01")?);
+    assert!(rt; has_response(rt.alloc(), &Reply::ParamsSet, b"\x12\x02\x08\x01")?);
+    assert!(rt; has_response(rt.alloc(), &Reply::Announced(1), b"\x1a\x02\x10\x01")?);
     assert!(rt;
-        is_owed(
+        has_response(
             rt.alloc(),
             &Reply::RibDone,
             b"\x0a\x06\x08\x01\x10\x03\x18\x03"
@@ -28,8 +28,8 @@ fn replies_are_answered(rt: HostRuntime) -> Result<(), Fail> {
     );
     let unresolved = Reply::RibFailed(Reason::Unresolved);
     let failed = b"\x0a\x08\x08\x01\x10\x02\x18\x03\x20\x09";
-    assert!(rt; is_owed(rt.alloc(), &unresolved, failed)?);
-    assert!(rt; is_owed(rt.alloc(), &Reply::Left, b"")?);
+    assert!(rt; has_response(rt.alloc(), &unresolved, failed)?);
+    assert!(rt; has_response(rt.alloc(), &Reply::Left, b"")?);
     Ok(())
 }
 
@@ -42,9 +42,9 @@ fn collected_results_are_answered(rt: HostRuntime) -> Result<(), Fail> {
         now: 4,
     })?;
     let collected = Reply::Collected(Batch::cut(&mut due), 0);
-    assert!(rt; is_owed(rt.alloc(), &collected, b"\x0a\x06\x08\x02\x10\x04\x18\x04")?);
+    assert!(rt; has_response(rt.alloc(), &collected, b"\x0a\x06\x08\x02\x10\x04\x18\x04")?);
     let empty = Reply::Collected(Batch::empty(rt.alloc()), 1);
-    assert!(rt; is_owed(rt.alloc(), &empty, b"")?);
+    assert!(rt; has_response(rt.alloc(), &empty, b"")?);
     Ok(())
 }
 

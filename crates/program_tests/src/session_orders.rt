@@ -1,6 +1,6 @@
 use aft_entries::{Ask, Instances, Reason};
+use call_answers::{Setting, operations_in, read_header, read_operation, read_orders};
 use schema_numbers::default_numbering;
-use session_engine::{Setting, operations_in, read_asks, read_operation, read_orders};
 use std::alloc::Global;
 use std::test::Fail;
 use table_model::{AckType, Persistence, Redundancy};
@@ -62,7 +62,7 @@ fn is_bad_key(ask: &Ask) -> bool {
 #[test]
 fn operations_are_read_one_by_one(rt: HostRuntime) -> Result<(), Fail> {
     let setting = setting(rt.alloc(), &["DEFAULT"])?;
-    let (params, election) = read_asks(rt.alloc(), &setting, ADD)?;
+    let (params, election) = read_header(rt.alloc(), &setting, ADD)?;
     assert!(rt; params.is_none() && election.is_none());
     let mut pieces = operations_in(&setting, ADD);
     if let Some(piece) = pieces.next() {

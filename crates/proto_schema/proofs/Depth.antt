@@ -4,7 +4,7 @@ use Rattle.std.specs.Prelude.{nat_le, ◌==◌, cond}
 use Rattle.std.specs.List.{list_all}
 use Rattle.std.proofs.lemmas.Bool.{and_parts, leb-true}
 use Rattle.proto_wire.specs.Wire.{Value, Varint, Eight, Bytes, Four}
-use Rattle.proto_wire.specs.Fields.{Spot, fields_from}
+use Rattle.proto_wire.specs.Fields.{FieldSpan, fields_from}
 use Rattle.schema_numbers.specs.Numbers.{Numbers}
 use Rattle.proto_schema.specs.declared.schema.MessageKind.{MessageKind}
 use Rattle.proto_schema.specs.declared.schema.MessageKind.TheVariants as message
@@ -12,7 +12,7 @@ use Rattle.proto_schema.specs.declared.schema.FieldKind.{FieldKind}
 use Rattle.proto_schema.specs.declared.schema.FieldKind.TheVariants.{Unknown, Number, Text, Unread, Message}
 use Rattle.proto_schema.specs.declared.legal.MessageFault.{MessageFault}
 use Rattle.proto_schema.specs.Schema.{fields_of, listed, kind_of}
-use Rattle.proto_schema.specs.Legal.{Deeper, fault_of_bytes, fault_of_value, fault_of_fields, wire_fault, not_looked_at, fault_within}
+use Rattle.proto_schema.specs.Legal.{NestedCheck, fault_of_bytes, fault_of_value, fault_of_fields, wire_fault, unchecked, fault_within}
 
 -- how deep messages stand in a message
 abbrev pub height : MessageKind → ℕ
@@ -104,10 +104,10 @@ unfolding kind_of
 kind_reach n m number = listed_reach number (height m) (fields_of n m) (rows_reach n m)
 
 -- two ways to look into the messages up to this height
-abbrev pub Agree : ℕ → Deeper → Deeper → Type 0
+abbrev pub Agree : ℕ → NestedCheck → NestedCheck → Type 0
 Agree most f g = (m : MessageKind) (base : ℕ) (bytes : List ℕ) → suc (height m) ≤ most → f m base bytes ≡ g m base bytes
 
-same_bytes : (most : ℕ) (f g : Deeper) → Agree most f g → (kind : FieldKind) (place base : ℕ) (bytes : List ℕ) → reach kind ≤ most
+same_bytes : (most : ℕ) (f g : NestedCheck) → Agree most f g → (kind : FieldKind) (place base : ℕ) (bytes : List ℕ) → reach kind ≤ most
     → fault_of_bytes f kind place base bytes ≡ fault_of_bytes g kind place base bytes
 same_bytes most f g h Unknown place base bytes le = refl
 same_bytes most f g h Number place base bytes le = refl
@@ -115,15 +115,15 @@ same_bytes most f g h Text place base bytes le = refl
 same_bytes most f g h Unread place base bytes le = refl
 same_bytes most f g h (Message m) place base bytes le = h m base bytes le
 
-same_value : (most : ℕ) (f g : Deeper) → Agree most f g → (kind : FieldKind) (place ending : ℕ) (value : Value) → reach kind ≤ most
+same_value : (most : ℕ) (f g : NestedCheck) → Agree most f g → (kind : FieldKind) (place ending : ℕ) (value : Value) → reach kind ≤ most
     → fault_of_value f kind place ending value ≡ fault_of_value g kind place ending value
 same_value most f g h kind place ending (Varint v) le = refl
 same_value most f g h kind place ending (Eight v) le = refl
 same_value most f g h kind place ending (Bytes bytes) le = same_bytes most f g h kind place (ending - length bytes) bytes le
 same_value most f g h kind place ending (Four v) le = refl
 
-same_fields : (most : ℕ) (f g : Deeper) → Agree most f g → (kinds : ℕ → FieldKind) → ((number : ℕ) → reach (kinds number) ≤ most)
-    → (fs : List Spot) (end : Option MessageFault) → fault_of_fields f kinds fs end ≡ fault_of_fields g kinds fs end
+same_fields : (most : ℕ) (f g : NestedCheck) → Agree most f g → (kinds : ℕ → FieldKind) → ((number : ℕ) → reach (kinds number) ≤ most)
+    → (fs : List FieldSpan) (end : Option MessageFault) → fault_of_fields f kinds fs end ≡ fault_of_fields g kinds fs end
 same_fields most f g h kinds le [] end = refl
 same_fields most f g h kinds le (x ∷ fs) end =
     rw (same_value most f g h (kinds x.number) x.place x.ending x.value (le x.number), same_fields most f g h kinds le fs end) refl
@@ -133,9 +133,9 @@ pub deeper_same : (d e : ℕ) (n : Numbers) (m : MessageKind) (base : ℕ) (byte
 unfolding fault_within
 deeper_same zero zero n m base bytes p q = refl
 deeper_same zero (suc e) n m base bytes p q =
-    same_fields (height m) not_looked_at (fault_within e n) (λ k at inner le. absurd (omega arith)) (kind_of n m) (kind_reach n m) (fields_from base bytes).fields (wire_fault (fields_from base bytes).fault)
+    same_fields (height m) unchecked (fault_within e n) (λ k at inner le. absurd (omega arith)) (kind_of n m) (kind_reach n m) (fields_from base bytes).fields (wire_fault (fields_from base bytes).fault)
 deeper_same (suc d) zero n m base bytes p q =
-    same_fields (height m) (fault_within d n) not_looked_at (λ k at inner le. absurd (omega arith)) (kind_of n m) (kind_reach n m) (fields_from base bytes).fields (wire_fault (fields_from base bytes).fault)
+    same_fields (height m) (fault_within d n) unchecked (λ k at inner le. absurd (omega arith)) (kind_of n m) (kind_reach n m) (fields_from base bytes).fields (wire_fault (fields_from base bytes).fault)
 deeper_same (suc d) (suc e) n m base bytes p q =
     same_fields (height m) (fault_within d n) (fault_within e n) (λ k at inner le. deeper_same d e n k at inner (omega arith) (omega arith)) (kind_of n m) (kind_reach n m) (fields_from base bytes).fields (wire_fault (fields_from base bytes).fault)
 

@@ -4,7 +4,7 @@ use Rattle.proto_wire.specs.Fields.{fields_from}
 use Rattle.proto_schema.specs.declared.schema.MessageKind.{MessageKind}
 use Rattle.schema_numbers.specs.Numbers.{Numbers}
 use Rattle.proto_schema.specs.Schema.{kind_of}
-use Rattle.proto_schema.specs.Legal.{fault_within, fault_of_cut, deeper_than}
+use Rattle.proto_schema.specs.Legal.{fault_within, fault_of_parsed, deeper_than}
 use Rattle.std.specs.Str.{IsUtf8, is_utf8}
 use Rattle.std.proofs.lemmas.Str.{IsUtf8-from_is_utf8, is_utf8-from_IsUtf8}
 
@@ -19,7 +19,7 @@ utf8_fault bytes bad = by_cases (is_utf8 bytes) (λ good. bad (IsUtf8-from_is_ut
     by_cases false h = refl
 
 -- the faults of a message are those of its fields
-pub fault_within-is : (depth : ℕ) (n : Numbers) (m : MessageKind) (base : ℕ) (bytes : List ℕ) → fault_within depth n m base bytes ≡ fault_of_cut (deeper_than depth n) (kind_of n m) (fields_from base bytes)
+pub fault_within-is : (depth : ℕ) (n : Numbers) (m : MessageKind) (base : ℕ) (bytes : List ℕ) → fault_within depth n m base bytes ≡ fault_of_parsed (deeper_than depth n) (kind_of n m) (fields_from base bytes)
 unfolding fault_within deeper_than
 fault_within-is zero n m base bytes = refl
 fault_within-is (suc depth) n m base bytes = refl

@@ -3,7 +3,7 @@ use Rattle.std.proofs.Common.{◌≡◌, ℕ, zero, suc, List, [], ◌∷◌, le
 use Rattle.proto_wire.specs.Fields.{fields_from, fields_upto}
 use Rattle.proto_schema.specs.declared.schema.MessageKind.{MessageKind}
 use Rattle.proto_schema.specs.Legal.{fault_within}
-use Rattle.proto_schema.specs.Words.{message_at}
+use Rattle.proto_schema.specs.FieldValues.{message_at}
 use Rattle.schema_numbers.specs.Numbers.{Numbers}
 
 pub no_message : (wanted : ℕ) (bytes : List ℕ) → length bytes ≡ 0 → message_at wanted bytes ≡ None

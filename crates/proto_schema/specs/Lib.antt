@@ -1,4 +1,4 @@
 pub mod Schema
 pub mod Legal
-pub mod Words
-pub mod Chosen
+pub mod FieldValues
+pub mod OneofMember

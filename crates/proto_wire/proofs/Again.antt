@@ -6,10 +6,10 @@ use Rattle.std.proofs.lemmas.List.{length-append, drop_at, take_at}
 use Rattle.std.proofs.lemmas.List.Concat.{flat_map-cons}
 use Rattle.std.proofs.lemmas.List.Elements.{All-head, All-tail}
 use Rattle.std.proofs.Math.Nat.{pow-suc}
-use Rattle.proto_wire.specs.Wire.{behind, varint_within, varint_at, value_at, Varint, Bytes, Body, body_at}
-use Rattle.proto_wire.specs.Fields.{first_then, fields_upto, fields_from}
-use Rattle.proto_wire.specs.Written.{varint_upto, varint, uint_field, bytes_field, Part, Uint, Text, IsLegal, spelling, spelled, spots}
-use Rattle.proto_wire.proofs.Cuts.{fields_from-first, body_at-some}
+use Rattle.proto_wire.specs.Wire.{behind, varint_within, varint_at, value_at, Varint, Bytes, TaggedValue, tagged_value_at}
+use Rattle.proto_wire.specs.Fields.{prepend_field, fields_upto, fields_from}
+use Rattle.proto_wire.specs.Written.{varint_upto, varint, uint_field, bytes_field, WrittenField, Uint, Text, IsLegal, field_encoding, encoded_fields, field_spans}
+use Rattle.proto_wire.proofs.Cuts.{fields_from-first, tagged_value_at-some}
 
 joins : (n b : ℕ) (len : ℕ) → 128 ≤ n → b ≡ (n % 128) + 128 → behind b (Ok (n / 128, len)) ≡ Ok (n, suc len)
 joins n b len le is =
@@ -38,10 +38,10 @@ pub varint_at-again : (n : ℕ) (more : List ℕ) → n < 2 ^ 64 → varint_at (
 varint_at-again n more lt = again 9 n more lt
 
 -- a field of a number
-pub body_at-uint : (number value : ℕ) (more : List ℕ) → 1 ≤ number → number < 2 ^ 29 → value < 2 ^ 64
-    → body_at (uint_field number value ++ more) ≡ Ok (record { number = number; value = Varint value; size = length (uint_field number value) })
-unfolding body_at value_at
-body_at-uint number value more low high fits =
+pub tagged_value_at-uint : (number value : ℕ) (more : List ℕ) → 1 ≤ number → number < 2 ^ 29 → value < 2 ^ 64
+    → tagged_value_at (uint_field number value ++ more) ≡ Ok (record { number = number; value = Varint value; size = length (uint_field number value) })
+unfolding tagged_value_at value_at
+tagged_value_at-uint number value more low high fits =
     let regrouped : uint_field number value ++ more ≡ varint (number * 8) ++ (varint value ++ more) = append_assoc (varint (number * 8)) (varint value) more in
     let tag = varint_at-again (number * 8) (varint value ++ more) (omega arith) in
     let not_low : ltb (number * 8) 8 ≡ false = le-ltb _ _ (omega arith) in
@@ -50,13 +50,13 @@ body_at-uint number value more low high fits =
     let name : (number * 8) / 8 ≡ number = omega arith in
     let rest : drop (length (varint (number * 8))) (varint (number * 8) ++ (varint value ++ more)) ≡ varint value ++ more = drop_at (varint (number * 8)) (varint value ++ more) (length (varint (number * 8))) refl in
     let one = varint_at-again value more fits in
-    ap body_at regrouped ∙ rw (tag, not_low, not_high, kind, name, rest, one, length-append) refl
+    ap tagged_value_at regrouped ∙ rw (tag, not_low, not_high, kind, name, rest, one, length-append) refl
 
 -- a field of bytes
-pub body_at-bytes : (number : ℕ) (value more : List ℕ) → 1 ≤ number → number < 2 ^ 29 → length value < 2 ^ 64
-    → body_at (bytes_field number value ++ more) ≡ Ok (record { number = number; value = Bytes value; size = length (bytes_field number value) })
-unfolding body_at value_at
-body_at-bytes number value more low high fits =
+pub tagged_value_at-bytes : (number : ℕ) (value more : List ℕ) → 1 ≤ number → number < 2 ^ 29 → length value < 2 ^ 64
+    → tagged_value_at (bytes_field number value ++ more) ≡ Ok (record { number = number; value = Bytes value; size = length (bytes_field number value) })
+unfolding tagged_value_at value_at
+tagged_value_at-bytes number value more low high fits =
     let t : List ℕ = varint (number * 8 + 2) in
     let l : List ℕ = varint (length value) in
     let regrouped : bytes_field number value ++ more ≡ t ++ (l ++ (value ++ more)) =
@@ -72,36 +72,36 @@ body_at-bytes number value more low high fits =
     let skipped : drop (length l) (l ++ (value ++ more)) ≡ value ++ more = drop_at l (value ++ more) (length l) refl in
     let text : take (length value) (value ++ more) ≡ value = take_at value more (length value) refl in
     let size : length t + (length l + length value) ≡ length (bytes_field number value) = omega (arith, length-append (t ++ l) value, length-append t l) in
-    ap body_at regrouped ∙ rw (tag, not_low, not_high, kind, name, rest, one, all, skipped, text) (ap (λ (s : ℕ). Ok (record { number = number; value = Bytes value; size = s })) size)
+    ap tagged_value_at regrouped ∙ rw (tag, not_low, not_high, kind, name, rest, one, all, skipped, text) (ap (λ (s : ℕ). Ok (record { number = number; value = Bytes value; size = s })) size)
 
-first_field : (place : ℕ) (written more : List ℕ) (body : Body) → body_at (written ++ more) ≡ Ok body → length written ≡ body.size
-    → fields_from place (written ++ more) ≡ first_then (record { number = body.number; place = place; ending = place + body.size; value = body.value }) (fields_from (place + body.size) more)
+first_field : (place : ℕ) (written more : List ℕ) (body : TaggedValue) → tagged_value_at (written ++ more) ≡ Ok body → length written ≡ body.size
+    → fields_from place (written ++ more) ≡ prepend_field (record { number = body.number; place = place; ending = place + body.size; value = body.value }) (fields_from (place + body.size) more)
 first_field place written more body e size =
-    fields_from-first place (written ++ more) more body (body_at-some (written ++ more) body e) e (sym (drop_at written more body.size size))
+    fields_from-first place (written ++ more) more body (tagged_value_at-some (written ++ more) body e) e (sym (drop_at written more body.size size))
 
 -- a field of a number, and what follows it
 pub fields_from-uint : (place number value : ℕ) (more : List ℕ) → 1 ≤ number → number < 2 ^ 29 → value < 2 ^ 64
-    → fields_from place (uint_field number value ++ more) ≡ first_then (record { number = number; place = place; ending = place + length (uint_field number value); value = Varint value }) (fields_from (place + length (uint_field number value)) more)
+    → fields_from place (uint_field number value ++ more) ≡ prepend_field (record { number = number; place = place; ending = place + length (uint_field number value); value = Varint value }) (fields_from (place + length (uint_field number value)) more)
 fields_from-uint place number value more low high fits =
-    first_field place (uint_field number value) more (record { number = number; value = Varint value; size = length (uint_field number value) }) (body_at-uint number value more low high fits) refl
+    first_field place (uint_field number value) more (record { number = number; value = Varint value; size = length (uint_field number value) }) (tagged_value_at-uint number value more low high fits) refl
 
 -- a field of bytes, and what follows it
 pub fields_from-bytes : (place number : ℕ) (value more : List ℕ) → 1 ≤ number → number < 2 ^ 29 → length value < 2 ^ 64
-    → fields_from place (bytes_field number value ++ more) ≡ first_then (record { number = number; place = place; ending = place + length (bytes_field number value); value = Bytes value }) (fields_from (place + length (bytes_field number value)) more)
+    → fields_from place (bytes_field number value ++ more) ≡ prepend_field (record { number = number; place = place; ending = place + length (bytes_field number value); value = Bytes value }) (fields_from (place + length (bytes_field number value)) more)
 fields_from-bytes place number value more low high fits =
-    first_field place (bytes_field number value) more (record { number = number; value = Bytes value; size = length (bytes_field number value) }) (body_at-bytes number value more low high fits) refl
+    first_field place (bytes_field number value) more (record { number = number; value = Bytes value; size = length (bytes_field number value) }) (tagged_value_at-bytes number value more low high fits) refl
 
-first_part : (place : ℕ) (part : Part) (parts : List Part) → IsLegal part → fields_from (place + length (spelling part)) (spelled parts) ≡ record { fields = spots (place + length (spelling part)) parts; fault = None }
-    → fields_from place (spelling part ++ spelled parts) ≡ record { fields = spots place (part ∷ parts); fault = None }
+first_part : (place : ℕ) (part : WrittenField) (parts : List WrittenField) → IsLegal part → fields_from (place + length (field_encoding part)) (encoded_fields parts) ≡ record { fields = field_spans (place + length (field_encoding part)) parts; fault = None }
+    → fields_from place (field_encoding part ++ encoded_fields parts) ≡ record { fields = field_spans place (part ∷ parts); fault = None }
 first_part place (Uint number value) parts h e =
-    fields_from-uint place number value (spelled parts) h.0 h.1 h.2 ∙ ap (first_then (record { number = number; place = place; ending = place + length (uint_field number value); value = Varint value })) e
+    fields_from-uint place number value (encoded_fields parts) h.0 h.1 h.2 ∙ ap (prepend_field (record { number = number; place = place; ending = place + length (uint_field number value); value = Varint value })) e
 first_part place (Text number bytes) parts h e =
-    fields_from-bytes place number bytes (spelled parts) h.0 h.1 h.2 ∙ ap (first_then (record { number = number; place = place; ending = place + length (bytes_field number bytes); value = Bytes bytes })) e
+    fields_from-bytes place number bytes (encoded_fields parts) h.0 h.1 h.2 ∙ ap (prepend_field (record { number = number; place = place; ending = place + length (bytes_field number bytes); value = Bytes bytes })) e
 
 -- all fields of a message
-pub fields_from-spelled : (place : ℕ) (parts : List Part) → All IsLegal parts → fields_from place (spelled parts) ≡ record { fields = spots place parts; fault = None }
+pub fields_from-encoded_fields : (place : ℕ) (parts : List WrittenField) → All IsLegal parts → fields_from place (encoded_fields parts) ≡ record { fields = field_spans place parts; fault = None }
 unfolding fields_from fields_upto
-fields_from-spelled place [] h = refl
-fields_from-spelled place (part ∷ parts) h =
-    ap (fields_from place) (flat_map-cons spelling part parts)
-    ∙ first_part place part parts (All-head IsLegal part parts h) (fields_from-spelled (place + length (spelling part)) parts (All-tail IsLegal part parts h))
+fields_from-encoded_fields place [] h = refl
+fields_from-encoded_fields place (part ∷ parts) h =
+    ap (fields_from place) (flat_map-cons field_encoding part parts)
+    ∙ first_part place part parts (All-head IsLegal part parts h) (fields_from-encoded_fields (place + length (field_encoding part)) parts (All-tail IsLegal part parts h))

@@ -4,8 +4,8 @@ use Rattle.std.specs.Prelude.{IfOk}
 use Rattle.std.proofs.lemmas.List.{length-drop}
 use Rattle.proto_wire.specs.declared.reader.WireFault.{WireFault}
 use Rattle.proto_wire.specs.declared.reader.WireFault.TheVariants.{Truncated, BadVarint, BadTag}
-use Rattle.proto_wire.specs.Wire.{◌>>=◌, behind, varint_within, varint_at, value_at, Body, body_at}
-use Rattle.proto_wire.specs.Fields.{first_then, spot_at, goes_on, fields_upto, fields_from}
+use Rattle.proto_wire.specs.Wire.{◌>>=◌, behind, varint_within, varint_at, value_at, TaggedValue, tagged_value_at}
+use Rattle.proto_wire.specs.Fields.{prepend_field, span_at, parse_rest, fields_upto, fields_from}
 use Rattle.proto_wire.proofs.Varint.{varint_within-nil}
 
 IfOk-behind : (b : ℕ) (r : Result (ℕ × ℕ) WireFault) → IfOk (behind b r) (λ x. 1 ≤ x.1)
@@ -33,25 +33,25 @@ any_ok : {A : Type 0} (r : Result A WireFault) → IfOk r (λ _. Unit {0})
 any_ok (Ok x) = tt
 any_ok (Err e) = tt
 
-body_at-size : (bytes : List ℕ) → IfOk (body_at bytes) (λ body. 1 ≤ body.size)
-unfolding body_at
-body_at-size bytes =
+tagged_value_at-size : (bytes : List ℕ) → IfOk (tagged_value_at bytes) (λ body. 1 ≤ body.size)
+unfolding tagged_value_at
+tagged_value_at-size bytes =
     IfOk-bind (λ tag. 1 ≤ tag.1) (λ body. 1 ≤ body.size) (varint_at bytes) _ (varint_within-size 10 bytes)
     (λ tag le. IfOk-cond (λ body. 1 ≤ body.size) _ (Err BadTag) _ tt
     (IfOk-bind (λ _. Unit {0}) (λ body. 1 ≤ body.size) (value_at _ (drop tag.1 bytes)) _ (any_ok (value_at _ (drop tag.1 bytes))) (λ v u. omega (arith, le))))
 
 -- a field takes a byte at least
-pub body_at-some : (bytes : List ℕ) (body : Body) → body_at bytes ≡ Ok body → 0 < length bytes
-unfolding body_at
-body_at-some [] body e = let none = varint_within-nil 10 in absurd (let f : Err Truncated ≡ Ok body = rw none at e in cc)
-body_at-some (b ∷ bytes) body e = omega arith
+pub tagged_value_at-some : (bytes : List ℕ) (body : TaggedValue) → tagged_value_at bytes ≡ Ok body → 0 < length bytes
+unfolding tagged_value_at
+tagged_value_at-some [] body e = let none = varint_within-nil 10 in absurd (let f : Err Truncated ≡ Ok body = rw none at e in cc)
+tagged_value_at-some (b ∷ bytes) body e = omega arith
 
-goes_same : (n m place b : ℕ) (bytes : List ℕ) (r : Result Body WireFault) → IfOk r (λ body. 1 ≤ body.size) → length bytes ≤ n → length bytes ≤ m
+goes_same : (n m place b : ℕ) (bytes : List ℕ) (r : Result TaggedValue WireFault) → IfOk r (λ body. 1 ≤ body.size) → length bytes ≤ n → length bytes ≤ m
     → ((place : ℕ) (bytes : List ℕ) → length bytes ≤ n → length bytes ≤ m → fields_upto n place bytes ≡ fields_upto m place bytes)
-    → goes_on (fields_upto n) place (b ∷ bytes) r ≡ goes_on (fields_upto m) place (b ∷ bytes) r
+    → parse_rest (fields_upto n) place (b ∷ bytes) r ≡ parse_rest (fields_upto m) place (b ∷ bytes) r
 goes_same n m place b bytes (Ok body) le in_n in_m same =
     let short : length (drop body.size (b ∷ bytes)) ≤ length bytes = omega (arith, length-drop body.size (b ∷ bytes)) in
-    ap (first_then (spot_at place body)) (same (place + body.size) (drop body.size (b ∷ bytes)) (omega arith) (omega arith))
+    ap (prepend_field (span_at place body)) (same (place + body.size) (drop body.size (b ∷ bytes)) (omega arith) (omega arith))
 goes_same n m place b bytes (Err e) le in_n in_m same = refl
 
 fields_upto-same : (n m place : ℕ) (bytes : List ℕ) → length bytes ≤ n → length bytes ≤ m → fields_upto n place bytes ≡ fields_upto m place bytes
@@ -63,22 +63,22 @@ fields_upto-same (suc n) (suc m) place [] p q = refl
 fields_upto-same zero (suc m) place (b ∷ bytes) p q = absurd (omega arith)
 fields_upto-same (suc n) zero place (b ∷ bytes) p q = absurd (omega arith)
 fields_upto-same (suc n) (suc m) place (b ∷ bytes) p q =
-    goes_same n m place b bytes (body_at (b ∷ bytes)) (body_at-size (b ∷ bytes)) (omega arith) (omega arith) (λ at rest. fields_upto-same n m at rest)
+    goes_same n m place b bytes (tagged_value_at (b ∷ bytes)) (tagged_value_at-size (b ∷ bytes)) (omega arith) (omega arith) (λ at rest. fields_upto-same n m at rest)
 
-from_here : (place b : ℕ) (bytes : List ℕ) (r : Result Body WireFault) → IfOk r (λ body. 1 ≤ body.size)
-    → goes_on (fields_upto (length bytes)) place (b ∷ bytes) r ≡ goes_on fields_from place (b ∷ bytes) r
+from_here : (place b : ℕ) (bytes : List ℕ) (r : Result TaggedValue WireFault) → IfOk r (λ body. 1 ≤ body.size)
+    → parse_rest (fields_upto (length bytes)) place (b ∷ bytes) r ≡ parse_rest fields_from place (b ∷ bytes) r
 unfolding fields_from
 from_here place b bytes (Ok body) le =
     let short : length (drop body.size (b ∷ bytes)) ≤ length bytes = omega (arith, length-drop body.size (b ∷ bytes)) in
-    ap (first_then (spot_at place body)) (fields_upto-same (length bytes) (length (drop body.size (b ∷ bytes))) (place + body.size) (drop body.size (b ∷ bytes)) short (omega arith))
+    ap (prepend_field (span_at place body)) (fields_upto-same (length bytes) (length (drop body.size (b ∷ bytes))) (place + body.size) (drop body.size (b ∷ bytes)) short (omega arith))
 from_here place b bytes (Err e) le = refl
 
 -- the fields are the first one and those behind it
-pub fields_from-step : (place b : ℕ) (bytes : List ℕ) → fields_from place (b ∷ bytes) ≡ goes_on fields_from place (b ∷ bytes) (body_at (b ∷ bytes))
+pub fields_from-step : (place b : ℕ) (bytes : List ℕ) → fields_from place (b ∷ bytes) ≡ parse_rest fields_from place (b ∷ bytes) (tagged_value_at (b ∷ bytes))
 unfolding fields_from fields_upto
-fields_from-step place b bytes = from_here place b bytes (body_at (b ∷ bytes)) (body_at-size (b ∷ bytes))
+fields_from-step place b bytes = from_here place b bytes (tagged_value_at (b ∷ bytes)) (tagged_value_at-size (b ∷ bytes))
 
-pub fields_from-first : (place : ℕ) (bytes rest : List ℕ) (body : Body) → 0 < length bytes → body_at bytes ≡ Ok body → rest ≡ drop body.size bytes
-    → fields_from place bytes ≡ first_then (spot_at place body) (fields_from (place + body.size) rest)
+pub fields_from-first : (place : ℕ) (bytes rest : List ℕ) (body : TaggedValue) → 0 < length bytes → tagged_value_at bytes ≡ Ok body → rest ≡ drop body.size bytes
+    → fields_from place bytes ≡ prepend_field (span_at place body) (fields_from (place + body.size) rest)
 fields_from-first place [] rest body h e is = absurd (omega arith)
 fields_from-first place (b ∷ bytes) rest body h e is = fields_from-step place b bytes ∙ rw (e, is) refl

@@ -56,15 +56,15 @@ value_at kind bytes =
     Err BadType
 
 -- a field without its place
-pub record Body : Type 0 where
+pub record TaggedValue : Type 0 where
   pub number : ℕ
   pub value : Value
   pub size : ℕ
 
 -- The field at the front of the bytes, its tag first: the number times 8, and the wire type.
 -- So a tag below 8 has number 0.
-unfoldable pub body_at : List ℕ → Result Body WireFault
-body_at bytes =
+unfoldable pub tagged_value_at : List ℕ → Result TaggedValue WireFault
+tagged_value_at bytes =
     varint_at bytes >>= λ tag.
     if nat_lt tag.0 8 || nat_lt (2 ^ 32 - 1) tag.0 then Err BadTag else
     (value_at (tag.0 % 8) (drop tag.1 bytes) >>= λ v. Ok (record { number = tag.0 / 8; value = v.0; size = tag.1 + v.1 }))
@@ -76,10 +76,10 @@ value_of (wire.Eight eight) = Eight eight
 value_of (wire.Bytes bytes) = Bytes bytes.now
 value_of (wire.Four four) = Four four
 
-abbrev pub value_seen : Result (WireValue × ℕ) WireFault → Result (Value × ℕ) WireFault
-value_seen (Ok r) = Ok (value_of r.0, r.1)
-value_seen (Err e) = Err e
+abbrev pub value_view : Result (WireValue × ℕ) WireFault → Result (Value × ℕ) WireFault
+value_view (Ok r) = Ok (value_of r.0, r.1)
+value_view (Err e) = Err e
 
-abbrev pub body_seen : Result (ℕ × WireValue × ℕ) WireFault → Result Body WireFault
-body_seen (Ok r) = Ok (record { number = r.0; value = value_of r.1; size = r.2 })
-body_seen (Err e) = Err e
+abbrev pub tagged_value_view : Result (ℕ × WireValue × ℕ) WireFault → Result TaggedValue WireFault
+tagged_value_view (Ok r) = Ok (record { number = r.0; value = value_of r.1; size = r.2 })
+tagged_value_view (Err e) = Err e

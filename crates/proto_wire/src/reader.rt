@@ -1,5 +1,5 @@
 ghost use Rattle.std.specs.Prelude.{◌≡◌, ◌+◌, ◌<◌, ◌≤◌, ◌^◌, ℕ, List, length, IfOk};
-ghost use Rattle.proto_wire.specs.Wire.{varint_at, value_at, body_at, value_seen, body_seen, value_of, bytes_len};
+ghost use Rattle.proto_wire.specs.Wire.{varint_at, value_at, tagged_value_at, value_view, tagged_value_view, value_of, bytes_len};
 ghost use Rattle.proto_wire.specs.Fields.{Reads, IsWithin, HasNumber};
 
 use std::marker::Model;
@@ -113,7 +113,7 @@ fn long_varint_at(bytes: &[u8]) -> Result<(u64, usize), WireFault>
 #[tactic(auto, unfolding(crate::specs::Wire::value_at))]
 #[inline(always)]
 fn bytes_at(bytes: &[u8]) -> Result<(WireValue<'_>, usize), WireFault>
-    ensures value { value_seen result ≡ value_at 2 bytes.now }
+    ensures value { value_view result ≡ value_at 2 bytes.now }
     ensures within { IfOk result (λ r. r.1 ≤ length bytes.now) }
     ensures holds { IfOk result (λ r. bytes_len (value_of r.0) ≤ r.1) }
 {
@@ -129,7 +129,7 @@ fn bytes_at(bytes: &[u8]) -> Result<(WireValue<'_>, usize), WireFault>
 #[tactic(auto, unfolding(crate::specs::Wire::value_at))]
 #[inline(always)]
 fn eight_at(bytes: &[u8]) -> Result<(WireValue<'_>, usize), WireFault>
-    ensures value { value_seen result ≡ value_at 1 bytes.now }
+    ensures value { value_view result ≡ value_at 1 bytes.now }
     ensures within { IfOk result (λ r. r.1 ≤ length bytes.now) }
     ensures holds { IfOk result (λ r. bytes_len (value_of r.0) ≤ r.1) }
 {
@@ -144,7 +144,7 @@ fn eight_at(bytes: &[u8]) -> Result<(WireValue<'_>, usize), WireFault>
 #[tactic(auto, unfolding(crate::specs::Wire::value_at))]
 #[inline(always)]
 fn four_at(bytes: &[u8]) -> Result<(WireValue<'_>, usize), WireFault>
-    ensures value { value_seen result ≡ value_at 5 bytes.now }
+    ensures value { value_view result ≡ value_at 5 bytes.now }
     ensures within { IfOk result (λ r. r.1 ≤ length bytes.now) }
     ensures holds { IfOk result (λ r. bytes_len (value_of r.0) ≤ r.1) }
 {
@@ -159,7 +159,7 @@ fn four_at(bytes: &[u8]) -> Result<(WireValue<'_>, usize), WireFault>
 #[tactic(auto, unfolding(crate::specs::Wire::value_at))]
 #[inline(always)]
 fn value_at(kind: u64, bytes: &[u8]) -> Result<(WireValue<'_>, usize), WireFault>
-    ensures value { value_seen result ≡ value_at kind bytes.now }
+    ensures value { value_view result ≡ value_at kind bytes.now }
     ensures within { IfOk result (λ r. r.1 ≤ length bytes.now) }
     ensures holds { IfOk result (λ r. bytes_len (value_of r.0) ≤ r.1) }
 {
@@ -175,10 +175,10 @@ fn value_at(kind: u64, bytes: &[u8]) -> Result<(WireValue<'_>, usize), WireFault
     }
 }
 
-#[tactic(auto, unfolding(crate::specs::Wire::body_at))]
+#[tactic(auto, unfolding(crate::specs::Wire::tagged_value_at))]
 #[inline(always)]
-fn body_at(bytes: &[u8]) -> Result<(u32, WireValue<'_>, usize), WireFault>
-    ensures value { body_seen result ≡ body_at bytes.now }
+fn tagged_value_at(bytes: &[u8]) -> Result<(u32, WireValue<'_>, usize), WireFault>
+    ensures value { tagged_value_view result ≡ tagged_value_at bytes.now }
     ensures within { IfOk result (λ r. (1 ≤ r.2) × (r.2 ≤ length bytes.now)) }
     ensures holds { IfOk result (λ r. bytes_len (value_of r.1) ≤ r.2) }
     ensures number { IfOk result (λ r. (1 ≤ r.0) × (r.0 < 2 ^ 29)) }
@@ -231,7 +231,7 @@ impl<'a> FieldReader<'a> {
         if self.rest.is_empty() {
             return Next::End;
         }
-        match body_at(self.rest) {
+        match tagged_value_at(self.rest) {
             Ok((number, value, size)) => {
                 let place = self.place;
                 self.rest = &self.rest[size..];

@@ -9,6 +9,6 @@ IfOver Progress P = Unit {0}
 IfOver Idle P = Unit {0}
 
 -- how many items have turns to come, and how many are over and weren't taken out
-pub record Held : Type 0 where
+pub record ReactorCounts : Type 0 where
   pub live : ℕ
   pub over : ℕ

@@ -25,9 +25,9 @@ pub struct Reactor<T: Turning + Drop> {
 
 impl<T: Turning + Drop> Model for Reactor<T> {
     ghost use Rattle.std.specs.Prelude.{◌+◌, ◌≤◌, All, vec_len, vec_capacity};
-    ghost use Rattle.reactor.specs.Turns.{Held};
+    ghost use Rattle.reactor.specs.Turns.{ReactorCounts};
 
-    ghost Value = { Held };
+    ghost Value = { ReactorCounts };
 
     ghost view = { λ r. record { live = vec_len r.live; over = vec_len r.over } };
 

@@ -6,7 +6,7 @@ use Rattle.table_model.specs.Event.{Event, events}
 use Rattle.table_model.specs.Legal.{Legal}
 use Rattle.table_model.specs.Rib.{rib}
 use Rattle.table_model.specs.Reply.{is_halted}
-use Rattle.election.specs.Poll as election
+use Rattle.election.specs.ElectionState as election
 use Rattle.session_params.specs.Book as sessions
 use Rattle.rib_core.specs.Core.{Core}
 
@@ -14,8 +14,8 @@ use Rattle.rib_core.specs.Core.{Core}
 pub record Keeps (core : Core) (past : List Event) : Type 0 where
   pub count : core.count ≡ length past
   pub table : core.table.entries ≡ rib past
-  pub poll : election.StandsFor core.poll past
-  pub seats : sessions.StandsFor core.seats past
+  pub election_state : election.StandsFor core.election_state past
+  pub session_records : sessions.StandsFor core.session_records past
   pub running : is_halted past ≡ false
 
 pub record StandsFor (core : Core) (recorded : List Event) : Type 0 where

@@ -1,7 +1,7 @@
 ghost use Rattle.std.specs.Prelude.{◌≡◌, ◌≢◌, if◌then◌else◌, true, ◌+◌, ◌<◌, ◌≤◌, ◌^◌, List, [], length, IfOk, IsTrue, OnOk, OnErr, Some, option_map};
 ghost use Rattle.aft_entries.specs.Shapes.{fits};
 ghost use Rattle.table_model.specs.Event.{Event, events};
-ghost use Rattle.table_model.specs.Legal.{is_formed_ask};
+ghost use Rattle.table_model.specs.Legal.{is_well_formed_ask};
 ghost use Rattle.rib_core.specs.Stands.{StandsFor, Acts};
 ghost use Rattle.rib_core.specs.Built.{is_built, is_in_range, as_served, served_ack, served_params};
 ghost use Rattle.rib_core.specs.Decisions.{purges_in, refuse_in, verdict_in, Accepts};
@@ -49,7 +49,7 @@ impl Model for RibCore {
 
     ghost Value = { Core };
 
-    ghost view = { λ c. record { config = c.config; table = c.table; poll = c.election; seats = c.sessions; count = c.events } };
+    ghost view = { λ c. record { config = c.config; table = c.table; election_state = c.election; session_records = c.sessions; count = c.events } };
 }
 
 impl RibCore {
@@ -169,7 +169,7 @@ impl RibCore {
         ensures count { self.new.count ≤ self.old.count + 1 }
     {
         let _ = now;
-        formed_by_type(&operation.ask);
+        well_formed_by_type(&operation.ask);
         match self.refuse(session, &operation) {
             Some(end) => {
                 discard(operation);
@@ -188,10 +188,10 @@ impl RibCore {
         ensures reply { option_map end_reply result ≡ refuse_in self.now session operation.now }
         ensures never { result ≢ Some OperateEnd.NoMemory }
     {
-        match self.sessions.seat(session) {
+        match self.sessions.session_record(session) {
             None => Some(OperateEnd::Gone),
-            Some(seat) => {
-                if seat.params.is_none() {
+            Some(session_record) => {
+                if session_record.params.is_none() {
                     return Some(OperateEnd::NoParams);
                 }
                 failed(self.verdict(session, operation))
@@ -227,7 +227,7 @@ impl RibCore {
         if !is_it(self.election.primary(), session) {
             return Some(Reason::NotPrimary);
         }
-        if !is_id(operation.election, self.election.highest()) {
+        if !is_same_id(operation.election, self.election.highest()) {
             return Some(Reason::ElectionIdDiffers);
         }
         judge(
@@ -292,17 +292,17 @@ fn served_type(ack: Option<AckType>) -> Option<AckType>
 
 // An entry that is put has a payload of its key's kind. This and the next read what the entry's type keeps, for
 // the proof.
-fn formed_by_type(ask: &Ask)
-    ensures { is_formed_ask ask.now ≡ true }
+fn well_formed_by_type(ask: &Ask)
+    ensures { is_well_formed_ask ask.now ≡ true }
 {
     match ask {
-        Ask::Put(entry, _) => fit_by_type(entry),
+        Ask::Put(entry, _) => payload_fits_by_type(entry),
         Ask::Remove(_) => {}
         Ask::Bad(_) => {}
     }
 }
 
-fn fit_by_type(entry: &Entry)
+fn payload_fits_by_type(entry: &Entry)
     ensures { fits entry.now.key.name entry.now.payload ≡ true }
 {
     let _key = entry.key;
@@ -358,8 +358,8 @@ fn is_it(holder: Option<u64>, session: u64) -> bool
     }
 }
 
-fn is_id(given: Option<u128>, highest: u128) -> bool
-    ensures { result ≡ rib.is_id given highest }
+fn is_same_id(given: Option<u128>, highest: u128) -> bool
+    ensures { result ≡ rib.is_same_id given highest }
 {
     match given {
         None => false,

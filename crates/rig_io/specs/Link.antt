@@ -12,38 +12,38 @@ pub data Piece : Type 0 where
   sent : List ℕ → Piece
 
 -- its bytes, where it was received, and where it was sent
-abbrev pub gave_of : Piece → List ℕ
-gave_of (received bytes) = bytes
-gave_of (sent bytes) = []
+abbrev pub received_bytes : Piece → List ℕ
+received_bytes (received bytes) = bytes
+received_bytes (sent bytes) = []
 
-abbrev pub placed_of : Piece → List ℕ
-placed_of (received bytes) = []
-placed_of (sent bytes) = bytes
+abbrev pub sent_bytes : Piece → List ℕ
+sent_bytes (received bytes) = []
+sent_bytes (sent bytes) = bytes
 
 -- the bytes that no poll has got, and whether no more will come
-pub record Left : Type 0 where
+pub record InputLeft : Type 0 where
   pub bytes : List ℕ
   pub over : Bool
 
 -- A count that is answered lies between 1 and the length of the buffer.
-abbrev pub IsRead : LinkRead → ℕ → Type 0
-IsRead (read.Got n) limit = (1 ≤ n) × (n ≤ limit)
-IsRead read.NotReady limit = Unit {0}
-IsRead read.End limit = Unit {0}
-IsRead read.Failed limit = Unit {0}
+abbrev pub ReadInBounds : LinkRead → ℕ → Type 0
+ReadInBounds (read.Got n) limit = (1 ≤ n) × (n ≤ limit)
+ReadInBounds read.NotReady limit = Unit {0}
+ReadInBounds read.End limit = Unit {0}
+ReadInBounds read.Failed limit = Unit {0}
 
-abbrev pub IsWritten : LinkWrite → ℕ → Type 0
-IsWritten (write.Put n) limit = (1 ≤ n) × (n ≤ limit)
-IsWritten write.NotReady limit = Unit {0}
-IsWritten write.Failed limit = Unit {0}
+abbrev pub WriteInBounds : LinkWrite → ℕ → Type 0
+WriteInBounds (write.Put n) limit = (1 ≤ n) × (n ≤ limit)
+WriteInBounds write.NotReady limit = Unit {0}
+WriteInBounds write.Failed limit = Unit {0}
 
 -- The bytes that are left, where they are told: those that a poll got stood at their front, and the end comes where the input is
 -- over and nothing of it is left.
-abbrev pub Reads : Option Left → Option Left → LinkRead → List ℕ → Type 0
-Reads before after (read.Got n) buffer = before ≡ option_map (λ l. record { bytes = take n buffer ++ l.bytes; over = l.over }) after
-Reads before after read.NotReady buffer = after ≡ before
-Reads before after read.End buffer = (after ≡ before) × IfSome before (λ l. (l.bytes ≡ []) × (l.over ≡ true))
-Reads before after read.Failed buffer = after ≡ before
+abbrev pub PollReads : Option InputLeft → Option InputLeft → LinkRead → List ℕ → Type 0
+PollReads before after (read.Got n) buffer = before ≡ option_map (λ l. record { bytes = take n buffer ++ l.bytes; over = l.over }) after
+PollReads before after read.NotReady buffer = after ≡ before
+PollReads before after read.End buffer = (after ≡ before) × IfSome before (λ l. (l.bytes ≡ []) × (l.over ≡ true))
+PollReads before after read.Failed buffer = after ≡ before
 
 -- The pieces, where they are told, grow by the one that a poll got.
 abbrev pub Receives : Option (List Piece) → Option (List Piece) → LinkRead → List ℕ → Type 0

@@ -1,6 +1,6 @@
 -- What the link in memory is seen as.
 use Rattle.std.specs.Prelude.{◌≡◌, ◌⊎◌, ℕ, zero, suc, ◌+◌, Bool, true, false, List, [], ◌∷◌, ◌++◌, take, drop, min, Option, Some, None}
-use Rattle.rig_io.specs.Fault.{Rose}
+use Rattle.rig_io.specs.Fault.{HasRisen}
 use Rattle.rig_io.specs.Link.{Piece, received, sent}
 use Rattle.rig_io.specs.declared.link.LinkRead.{LinkRead}
 use Rattle.rig_io.specs.declared.link.LinkRead.TheVariants as read
@@ -8,12 +8,12 @@ use Rattle.rig_io.specs.declared.link.LinkWrite.{LinkWrite}
 use Rattle.rig_io.specs.declared.link.LinkWrite.TheVariants as write
 use Rattle.rig_io.specs.declared.mem_link.LinkStep.TheVariants as step
 use Rattle.rig_io.specs.declared.mem_link.LinkStep.{LinkStep}
-use Rattle.rig_io.specs.declared.mem_link.Mark.{Mark}
-use Rattle.rig_io.specs.declared.mem_link.Mark.TheVariants as mark
+use Rattle.rig_io.specs.declared.mem_link.Transfer.{Transfer}
+use Rattle.rig_io.specs.declared.mem_link.Transfer.TheVariants as transfer
 
 -- the pieces, the bytes that no poll has got, whether no more will come, all bytes sent, how many of them were taken, the steps of the
 -- plan that are to come, and the counts
-pub record Line : Type 0 where
+pub record MemLinkState : Type 0 where
   pub pieces : List Piece
   pub left : List ℕ
   pub over : Bool
@@ -26,21 +26,21 @@ pub record Line : Type 0 where
   pub refused : ℕ
 
 -- the pieces, by how many bytes each has
-abbrev pub pieces_of : List Mark → List ℕ → List ℕ → List Piece
+abbrev pub pieces_of : List Transfer → List ℕ → List ℕ → List Piece
 pieces_of [] got put = []
-pieces_of (mark.Sent n ∷ ms) got put = sent (take n put) ∷ pieces_of ms got (drop n put)
-pieces_of (mark.Received n ∷ ms) got put = received (take n got) ∷ pieces_of ms (drop n got) put
+pieces_of (transfer.Sent n ∷ ms) got put = sent (take n put) ∷ pieces_of ms got (drop n put)
+pieces_of (transfer.Received n ∷ ms) got put = received (take n got) ∷ pieces_of ms (drop n got) put
 
 -- how many bytes were got and sent
-abbrev pub got_in : List Mark → ℕ
-got_in [] = 0
-got_in (mark.Sent n ∷ ms) = got_in ms
-got_in (mark.Received n ∷ ms) = n + got_in ms
+abbrev pub received_count : List Transfer → ℕ
+received_count [] = 0
+received_count (transfer.Sent n ∷ ms) = received_count ms
+received_count (transfer.Received n ∷ ms) = n + received_count ms
 
-abbrev pub put_in : List Mark → ℕ
-put_in [] = 0
-put_in (mark.Sent n ∷ ms) = n + put_in ms
-put_in (mark.Received n ∷ ms) = put_in ms
+abbrev pub sent_count : List Transfer → ℕ
+sent_count [] = 0
+sent_count (transfer.Sent n ∷ ms) = n + sent_count ms
+sent_count (transfer.Received n ∷ ms) = sent_count ms
 
 -- the first step of a plan that is not over
 abbrev pub first_step : List LinkStep → Option LinkStep
@@ -64,22 +64,22 @@ serving (Some (step.Upto zero)) room = Idles
 serving (Some (step.Upto (suc n))) room = Passes (min (suc n) room)
 
 -- What a read answers, where so many bytes are left: Failed at the steps that fail and where there is no memory, and nowhere else.
-abbrev pub ReadsAs : Serving → ℕ → Bool → LinkRead → ℕ → ℕ → Type 0
-ReadsAs Fails left over result before now = (result ≡ read.Failed) × (now ≡ before)
-ReadsAs Idles left over result before now = (result ≡ read.NotReady) × (now ≡ before)
-ReadsAs (Passes most) zero true result before now = (result ≡ read.End) × (now ≡ before)
-ReadsAs (Passes most) zero false result before now = (result ≡ read.NotReady) × (now ≡ before)
-ReadsAs (Passes most) (suc left) over result before now =
-    ((result ≡ read.Got (min (suc left) most)) × (now ≡ before)) ⊎ ((result ≡ read.Failed) × Rose before now)
+abbrev pub ReadByStep : Serving → ℕ → Bool → LinkRead → ℕ → ℕ → Type 0
+ReadByStep Fails left over result before now = (result ≡ read.Failed) × (now ≡ before)
+ReadByStep Idles left over result before now = (result ≡ read.NotReady) × (now ≡ before)
+ReadByStep (Passes most) zero true result before now = (result ≡ read.End) × (now ≡ before)
+ReadByStep (Passes most) zero false result before now = (result ≡ read.NotReady) × (now ≡ before)
+ReadByStep (Passes most) (suc left) over result before now =
+    ((result ≡ read.Got (min (suc left) most)) × (now ≡ before)) ⊎ ((result ≡ read.Failed) × HasRisen before now)
 
 -- and a write
-abbrev pub WritesAs : Serving → LinkWrite → ℕ → ℕ → Type 0
-WritesAs Fails result before now = (result ≡ write.Failed) × (now ≡ before)
-WritesAs Idles result before now = (result ≡ write.NotReady) × (now ≡ before)
-WritesAs (Passes most) result before now = ((result ≡ write.Put most) × (now ≡ before)) ⊎ ((result ≡ write.Failed) × Rose before now)
+abbrev pub WriteByStep : Serving → LinkWrite → ℕ → ℕ → Type 0
+WriteByStep Fails result before now = (result ≡ write.Failed) × (now ≡ before)
+WriteByStep Idles result before now = (result ≡ write.NotReady) × (now ≡ before)
+WriteByStep (Passes most) result before now = ((result ≡ write.Put most) × (now ≡ before)) ⊎ ((result ≡ write.Failed) × HasRisen before now)
 
 -- all bytes sent, behind a write
-abbrev pub sent_behind : List ℕ → LinkWrite → List ℕ → List ℕ
-sent_behind before (write.Put n) piece = before ++ take n piece
-sent_behind before write.NotReady piece = before
-sent_behind before write.Failed piece = before
+abbrev pub sent_after : List ℕ → LinkWrite → List ℕ → List ℕ
+sent_after before (write.Put n) piece = before ++ take n piece
+sent_after before write.NotReady piece = before
+sent_after before write.Failed piece = before

@@ -1,6 +1,6 @@
 -- What the source and the sink in memory are seen as.
 use Rattle.std.specs.Prelude.{◌≡◌, ◌⊎◌, ℕ, ◌+◌, ◌-◌, ◌^◌, List, Contains, min}
-use Rattle.rig_io.specs.Fault.{Rose, StaysUnless}
+use Rattle.rig_io.specs.Fault.{HasRisen, StaysUnless}
 use Rattle.rig_io.specs.declared.source.Took.{Took}
 use Rattle.rig_io.specs.declared.source.Took.TheVariants.{Got, End, Failed}
 use Rattle.rig_io.specs.declared.sink.Placed.{Placed}
@@ -8,7 +8,7 @@ use Rattle.rig_io.specs.declared.sink.Placed.TheVariants as placed
 
 -- The bytes given and those to be given, the numbers of the calls that are to fail, how many calls there were so far, and how many
 -- of them failed.
-pub record Input : Type 0 where
+pub record MemSourceState : Type 0 where
   pub given : List ℕ
   pub rest : List ℕ
   pub failing : List ℕ
@@ -17,7 +17,7 @@ pub record Input : Type 0 where
 
 -- All bytes placed, the numbers of the calls that are to fail, how many calls there were so far, how many of them failed, and how
 -- many were refused memory.
-pub record Output : Type 0 where
+pub record MemSinkState : Type 0 where
   pub bytes : List ℕ
   pub failing : List ℕ
   pub calls : ℕ
@@ -36,7 +36,7 @@ pub record FailsAt (failing : List ℕ) (call : ℕ) (failed : Type 0) : Type 0 
 -- Failures come at the listed calls, and elsewhere exactly where this call was refused memory.
 pub record FailsAtOrRefused (failing : List ℕ) (call : ℕ) (failed : Type 0) (before now : ℕ) : Type 0 where
   pub listed : Contains failing call → failed × (now ≡ before)
-  pub only : failed → Contains failing call ⊎ Rose before now
+  pub only : failed → Contains failing call ⊎ HasRisen before now
   pub stays : StaysUnless before now failed
 
 -- As many bytes are got as are left and fit.

@@ -7,10 +7,10 @@ use Rattle.rig_io.specs.declared.sink.Placed.{Placed}
 use Rattle.rig_io.specs.declared.sink.Placed.TheVariants as placed
 
 -- A count that is answered lies between 1 and the length of the buffer.
-abbrev pub IsTook : Took → ℕ → Type 0
-IsTook (Got n) limit = (1 ≤ n) × (n ≤ limit)
-IsTook End limit = Unit {0}
-IsTook Failed limit = Unit {0}
+abbrev pub TookInBounds : Took → ℕ → Type 0
+TookInBounds (Got n) limit = (1 ≤ n) × (n ≤ limit)
+TookInBounds End limit = Unit {0}
+TookInBounds Failed limit = Unit {0}
 
 -- The bytes that are left, where they are told: those that a call got stood at their front, and at the end none is left.
 abbrev pub Takes : Option (List ℕ) → Option (List ℕ) → Took → List ℕ → Type 0
@@ -19,15 +19,15 @@ Takes before after End buffer = (after ≡ before) × IfSome before (λ rest. re
 Takes before after Failed buffer = after ≡ before
 
 -- The bytes that were taken, where they are told, grow by exactly those that a call got.
-abbrev pub Grows : Option (List ℕ) → Option (List ℕ) → Took → List ℕ → Type 0
-Grows before after (Got n) buffer = after ≡ option_map (λ taken. taken ++ take n buffer) before
-Grows before after End buffer = after ≡ before
-Grows before after Failed buffer = after ≡ before
+abbrev pub TakenGrows : Option (List ℕ) → Option (List ℕ) → Took → List ℕ → Type 0
+TakenGrows before after (Got n) buffer = after ≡ option_map (λ taken. taken ++ take n buffer) before
+TakenGrows before after End buffer = after ≡ before
+TakenGrows before after Failed buffer = after ≡ before
 
 -- A count that is answered lies between 1 and the length of the piece.
-abbrev pub IsPlaced : Placed → ℕ → Type 0
-IsPlaced (placed.Put n) limit = (1 ≤ n) × (n ≤ limit)
-IsPlaced placed.Failed limit = Unit {0}
+abbrev pub PlacedInBounds : Placed → ℕ → Type 0
+PlacedInBounds (placed.Put n) limit = (1 ≤ n) × (n ≤ limit)
+PlacedInBounds placed.Failed limit = Unit {0}
 
 -- The bytes that were placed, where they are told, grow by exactly those of the piece that a call placed.
 abbrev pub Places : Option (List ℕ) → Option (List ℕ) → Placed → List ℕ → Type 0

@@ -20,13 +20,13 @@ pub trait Acceptor: Send {
     type Link: Link + Drop;
 
     ghost use Rattle.rig_io.specs.Fault.{HasCause, StaysUnless};
-    ghost use Rattle.rig_io.specs.Accept.{Gives, GivesTold, Retires, IsAllGiven, Listens};
+    ghost use Rattle.rig_io.specs.Accept.{CountsAccepted, ListsAccepted, Retires, AllAccepted, Listens};
 
     /// How many links it gave.
-    ghost gave: { Self → ℕ };
+    ghost given_count: { Self → ℕ };
 
     /// How many it took back.
-    ghost took: { Self → ℕ };
+    ghost retired_count: { Self → ℕ };
 
     /// How many links the last `listen` that answered true asked for, and how many had been given before it.
     ghost asked: { Self → ℕ × ℕ };
@@ -45,27 +45,27 @@ pub trait Acceptor: Send {
 
     /// Opens the address for so many connections.
     fn listen(&mut self, address: &str, connections: u64) -> bool
-        ensures asked { Listens result (gave self.old) connections (asked self.old) (asked self.new) }
+        ensures asked { Listens result (given_count self.old) connections (asked self.old) (asked self.new) }
         ensures cause { HasCause (faults self.old) (faults self.new) (result ≡ false) }
         ensures stays { StaysUnless (faults self.old) (faults self.new) (result ≡ false) }
-        ensures counts { (gave self.new ≡ gave self.old) × (took self.new ≡ took self.old) × (idles self.new ≡ idles self.old) }
+        ensures counts { (given_count self.new ≡ given_count self.old) × (retired_count self.new ≡ retired_count self.old) × (idles self.new ≡ idles self.old) }
         ensures told { (given self.new ≡ given self.old) × (retired self.new ≡ retired self.old) };
 
     /// Gives the next link, if one is there.
     fn poll_accept(&mut self) -> Accepted<Self::Link>
-        ensures gave { Gives (gave self.old) (gave self.new) result }
-        ensures given { GivesTold (given self.old) (given self.new) result }
-        ensures closed { (result ≡ Accepted.Closed) ↔ IsAllGiven (gave self.old) ((asked self.old).1) ((asked self.old).0) }
+        ensures given_count { CountsAccepted (given_count self.old) (given_count self.new) result }
+        ensures given { ListsAccepted (given self.old) (given self.new) result }
+        ensures closed { (result ≡ Accepted.Closed) ↔ AllAccepted (given_count self.old) ((asked self.old).1) ((asked self.old).0) }
         ensures cause { HasCause (faults self.old) (faults self.new) (result ≡ Accepted.Failed) }
         ensures stays { StaysUnless (faults self.old) (faults self.new) (result ≡ Accepted.Failed) }
         ensures idle { HasCause (idles self.old) (idles self.new) (result ≡ Accepted.NotReady) }
         ensures awake { StaysUnless (idles self.old) (idles self.new) (result ≡ Accepted.NotReady) }
-        ensures same { (asked self.new ≡ asked self.old) × (took self.new ≡ took self.old) × (retired self.new ≡ retired self.old) };
+        ensures same { (asked self.new ≡ asked self.old) × (retired_count self.new ≡ retired_count self.old) × (retired self.new ≡ retired self.old) };
 
     /// Takes back a link that is used no more.
     fn retire(&mut self, link: Self::Link)
-        requires { took self.old < gave self.old }
-        ensures took { took self.new ≡ took self.old + 1 }
+        requires { retired_count self.old < given_count self.old }
+        ensures retired_count { retired_count self.new ≡ retired_count self.old + 1 }
         ensures retired { Retires (retired self.old) (retired self.new) link }
-        ensures same { (gave self.new ≡ gave self.old) × (given self.new ≡ given self.old) × (asked self.new ≡ asked self.old) × (faults self.new ≡ faults self.old) × (idles self.new ≡ idles self.old) };
+        ensures same { (given_count self.new ≡ given_count self.old) × (given self.new ≡ given self.old) × (asked self.new ≡ asked self.old) × (faults self.new ≡ faults self.old) × (idles self.new ≡ idles self.old) };
 }

@@ -16,13 +16,13 @@ pub trait Dialer {
     type Link: Link + Drop;
 
     ghost use Rattle.rig_io.specs.Fault.{HasCause, StaysUnless};
-    ghost use Rattle.rig_io.specs.Accept.{Dials, DialsTold, Retires};
+    ghost use Rattle.rig_io.specs.Accept.{CountsDialled, ListsDialled, Retires};
 
     /// How many links it gave.
-    ghost gave: { Self → ℕ };
+    ghost given_count: { Self → ℕ };
 
     /// How many it took back.
-    ghost took: { Self → ℕ };
+    ghost retired_count: { Self → ℕ };
 
     /// The links given, as they were then, where it tells them.
     ghost given: { Self → Option (List Self.Link) };
@@ -35,16 +35,16 @@ pub trait Dialer {
 
     /// Gives a link to the address.
     fn dial(&mut self, address: &str) -> Dialled<Self::Link>
-        ensures gave { Dials (gave self.old) (gave self.new) result }
-        ensures given { DialsTold (given self.old) (given self.new) result }
+        ensures given_count { CountsDialled (given_count self.old) (given_count self.new) result }
+        ensures given { ListsDialled (given self.old) (given self.new) result }
         ensures cause { HasCause (faults self.old) (faults self.new) (result ≡ Dialled.Failed) }
         ensures stays { StaysUnless (faults self.old) (faults self.new) (result ≡ Dialled.Failed) }
-        ensures same { (took self.new ≡ took self.old) × (retired self.new ≡ retired self.old) };
+        ensures same { (retired_count self.new ≡ retired_count self.old) × (retired self.new ≡ retired self.old) };
 
     /// Takes back a link that is used no more.
     fn retire(&mut self, link: Self::Link)
-        requires { took self.old < gave self.old }
-        ensures took { took self.new ≡ took self.old + 1 }
+        requires { retired_count self.old < given_count self.old }
+        ensures retired_count { retired_count self.new ≡ retired_count self.old + 1 }
         ensures retired { Retires (retired self.old) (retired self.new) link }
-        ensures same { (gave self.new ≡ gave self.old) × (given self.new ≡ given self.old) × (faults self.new ≡ faults self.old) };
+        ensures same { (given_count self.new ≡ given_count self.old) × (given self.new ≡ given self.old) × (faults self.new ≡ faults self.old) };
 }

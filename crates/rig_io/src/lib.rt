@@ -18,6 +18,6 @@ pub use dialer::{Dialer, Dialled};
 pub use gates::Gates;
 pub use link::{Link, LinkRead, LinkWrite};
 pub use mem_acceptor::MemAcceptor;
-pub use mem_link::{LinkStep, Mark, MemLink};
+pub use mem_link::{LinkStep, MemLink, Transfer};
 pub use sink::{MemSink, Placed, Sink};
 pub use source::{MemSource, Source, Took};

@@ -1,5 +1,5 @@
 ghost use Rattle.std.specs.Prelude.{◌≡◌, ◌<◌, List, ℕ, Option, length};
-ghost use Rattle.rig_io.specs.Link.{Piece, Left};
+ghost use Rattle.rig_io.specs.Link.{Piece, InputLeft};
 
 /// What a poll of a link got.
 #[derive(Clone, Copy, Debug, PartialEq, Eq)]
@@ -28,13 +28,13 @@ pub enum LinkWrite {
 /// A link to another side, whose calls don't wait.
 pub trait Link: Send {
     ghost use Rattle.rig_io.specs.Fault.{HasCause, StaysUnless};
-    ghost use Rattle.rig_io.specs.Link.{IsRead, IsWritten, Reads, Receives, Sends};
+    ghost use Rattle.rig_io.specs.Link.{ReadInBounds, WriteInBounds, PollReads, Receives, Sends};
 
     /// The pieces received and sent in the order of the calls, where the link tells them.
     ghost pieces: { Self → Option (List Piece) };
 
     /// The bytes that are left, where the link tells them.
-    ghost left: { Self → Option Left };
+    ghost left: { Self → Option InputLeft };
 
     /// How often the link has failed.
     ghost faults: { Self → ℕ };
@@ -48,9 +48,9 @@ pub trait Link: Send {
     /// Gets at least one byte, if one is there.
     fn poll_read(&mut self, buffer: &mut [u8]) -> LinkRead
         requires { 0 < length buffer.old }
-        ensures bound { IsRead result (length buffer.new) }
+        ensures bound { ReadInBounds result (length buffer.new) }
         ensures size { length buffer.new ≡ length buffer.old }
-        ensures bytes { Reads (left self.old) (left self.new) result buffer.new }
+        ensures bytes { PollReads (left self.old) (left self.new) result buffer.new }
         ensures pieces { Receives (pieces self.old) (pieces self.new) result buffer.new }
         ensures cause { HasCause (faults self.old) (faults self.new) (result ≡ LinkRead.Failed) }
         ensures stays { StaysUnless (faults self.old) (faults self.new) (result ≡ LinkRead.Failed) }
@@ -61,7 +61,7 @@ pub trait Link: Send {
     /// Places at least one byte of the piece, if that can be done now.
     fn poll_write(&mut self, piece: &[u8]) -> LinkWrite
         requires { 0 < length piece.now }
-        ensures bound { IsWritten result (length piece.now) }
+        ensures bound { WriteInBounds result (length piece.now) }
         ensures bytes { left self.new ≡ left self.old }
         ensures pieces { Sends (pieces self.old) (pieces self.new) result piece.now }
         ensures cause { HasCause (faults self.old) (faults self.new) (result ≡ LinkWrite.Failed) }

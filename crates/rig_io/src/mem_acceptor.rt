@@ -8,37 +8,37 @@ use std::marker::Model;
 /// An acceptor in memory, which gives its links in order.
 #[derive(Drop)]
 pub struct MemAcceptor {
-    coming: Vec<MemLink>,
+    pending: Vec<MemLink>,
     retired: Vec<MemLink>,
     asked: u64,
     before: u64,
-    gave: u64,
+    given_count: u64,
     faults: u64,
     refused: u64,
 }
 
 impl Model for MemAcceptor {
     ghost use Rattle.std.specs.Prelude.{◌≤◌, ◌+◌, ◌<◌, ◌^◌, vec_len, vec_capacity};
-    ghost use Rattle.rig_io.specs.MemAcceptors.{Gate};
+    ghost use Rattle.rig_io.specs.MemAcceptors.{MemAcceptorState};
 
-    ghost Value = { Gate };
+    ghost Value = { MemAcceptorState };
 
-    ghost view = { λ a. record { coming = a.coming.items; retired = a.retired.items; asked = a.asked; before = a.before; gave = a.gave; faults = a.faults; refused = a.refused } };
+    ghost view = { λ a. record { pending = a.pending.items; retired = a.retired.items; asked = a.asked; before = a.before; given_count = a.given_count; faults = a.faults; refused = a.refused } };
 
-    ghost invariant = { λ a. (a.gave ≤ vec_capacity a.retired) × (vec_len a.retired ≤ a.gave) × (a.before ≤ a.gave) × (a.gave ≤ a.before + a.asked) };
+    ghost invariant = { λ a. (a.given_count ≤ vec_capacity a.retired) × (vec_len a.retired ≤ a.given_count) × (a.before ≤ a.given_count) × (a.given_count ≤ a.before + a.asked) };
 }
 
 impl MemAcceptor {
     /// An acceptor that will give these links.
     pub fn new(alloc: Global, links: Vec<MemLink>) -> MemAcceptor
-        ensures { result ≡ record { coming = links.items; retired = []; asked = 0; before = 0; gave = 0; faults = 0; refused = 0 } }
+        ensures { result ≡ record { pending = links.items; retired = []; asked = 0; before = 0; given_count = 0; faults = 0; refused = 0 } }
     {
         MemAcceptor {
-            coming: links,
+            pending: links,
             retired: Vec::new(alloc),
             asked: 0,
             before: 0,
-            gave: 0,
+            given_count: 0,
             faults: 0,
             refused: 0,
         }
@@ -62,14 +62,14 @@ impl MemAcceptor {
 impl Acceptor for MemAcceptor {
     ghost use Rattle.std.specs.Prelude.{Some, None, true, ◌↔◌, false};
     ghost use Rattle.rig_io.specs.Fault.{HasCause, StaysUnless};
-    ghost use Rattle.rig_io.specs.Accept.{Gives, IsAllGiven, Listens};
+    ghost use Rattle.rig_io.specs.Accept.{CountsAccepted, AllAccepted, Listens};
     ghost use Rattle.rig_io.specs.MemAcceptors.{Accepts};
 
     type Link = MemLink;
 
-    ghost gave = { λ a. a.gave };
+    ghost given_count = { λ a. a.given_count };
 
-    ghost took = { λ a. length a.retired };
+    ghost retired_count = { λ a. length a.retired };
 
     ghost asked = { λ a. (a.asked, a.before) };
 
@@ -83,25 +83,27 @@ impl Acceptor for MemAcceptor {
 
     fn listen(&mut self, _address: &str, connections: u64) -> bool
         ensures answer { result ≡ true }
-        ensures same { self.new ≡ record self.old { asked = connections; before = self.old.gave } }
+        ensures same { self.new ≡ record self.old { asked = connections; before = self.old.given_count } }
     {
-        self.before = self.gave;
+        self.before = self.given_count;
         self.asked = connections;
         true
     }
 
     fn poll_accept(&mut self) -> Accepted<MemLink>
-        ensures gave { Gives self.old.gave self.new.gave result }
-        ensures closed { (result ≡ Accepted.Closed) ↔ IsAllGiven self.old.gave self.old.before self.old.asked }
+        ensures given_count { CountsAccepted self.old.given_count self.new.given_count result }
+        ensures closed { (result ≡ Accepted.Closed) ↔ AllAccepted self.old.given_count self.old.before self.old.asked }
         ensures cause { HasCause self.old.faults self.new.faults (result ≡ Accepted.Failed) }
         ensures stays { StaysUnless self.old.faults self.new.faults (result ≡ Accepted.Failed) }
-        ensures exact { Accepts self.old.coming self.new.coming result self.old.refused self.new.refused }
+        ensures exact { Accepts self.old.pending self.new.pending result self.old.refused self.new.refused }
         ensures same { (self.new.asked ≡ self.old.asked) × (self.new.before ≡ self.old.before) × (self.new.retired ≡ self.old.retired) }
     {
-        if self.gave - self.before == self.asked {
+        if self.given_count - self.before == self.asked {
             return Accepted::Closed;
         }
-        match self.retired.reserve((self.gave as usize + 1).saturating_sub(self.retired.len())) {
+        match self.retired.reserve(
+            (self.given_count as usize + 1).saturating_sub(self.retired.len()),
+        ) {
             Ok(()) => {}
             Err(_) => {
                 self.refused = self.refused.saturating_add(1);
@@ -109,16 +111,16 @@ impl Acceptor for MemAcceptor {
                 return Accepted::Failed;
             }
         }
-        if self.coming.is_empty() {
+        if self.pending.is_empty() {
             self.faults = self.faults.saturating_add(1);
             return Accepted::Failed;
         }
-        self.gave += 1;
-        Accepted::New(self.coming.remove(0))
+        self.given_count += 1;
+        Accepted::New(self.pending.remove(0))
     }
 
     fn retire(&mut self, link: MemLink)
-        requires { length self.old.retired < self.old.gave }
+        requires { length self.old.retired < self.old.given_count }
         ensures { self.new ≡ record self.old { retired = self.old.retired ++ link ∷ [] } }
     {
         self.retired.push_reserved(link);

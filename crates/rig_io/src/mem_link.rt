@@ -1,5 +1,5 @@
 ghost use Rattle.std.specs.Prelude.{◌≡◌, ◌<◌, ◌≤◌, ◌++◌, List, [], ◌∷◌, ℕ, Option, Some, length, take, drop, vec_len, false, true, OnOk, OnErr};
-ghost use Rattle.rig_io.specs.Link.{Piece, Left};
+ghost use Rattle.rig_io.specs.Link.{Piece, InputLeft};
 ghost use Rattle.rig_io.specs.MemLinks.{first_step};
 
 use crate::link::{Link, LinkRead, LinkWrite};
@@ -19,7 +19,7 @@ pub enum LinkStep {
 
 /// A call that passed bytes, and how many.
 #[derive(Clone, Copy, Debug, PartialEq, Eq)]
-pub enum Mark {
+pub enum Transfer {
     Received(usize),
     Sent(usize),
 }
@@ -35,7 +35,7 @@ pub struct MemLink {
     is_over: bool,
     output: Vec<u8>,
     carried: usize,
-    marks: Vec<Mark>,
+    marks: Vec<Transfer>,
     faults: u64,
     read_idles: u64,
     write_idles: u64,
@@ -44,9 +44,9 @@ pub struct MemLink {
 
 impl Model for MemLink {
     ghost use Rattle.std.specs.Prelude.{◌≡◌, ◌≤◌, take, drop, vec_len};
-    ghost use Rattle.rig_io.specs.MemLinks.{Line, pieces_of, got_in, put_in};
+    ghost use Rattle.rig_io.specs.MemLinks.{MemLinkState, pieces_of, received_count, sent_count};
 
-    ghost Value = { Line };
+    ghost Value = { MemLinkState };
 
     ghost view = { λ l. record {
       pieces = pieces_of l.marks.items (take l.given l.input.items) l.output.items;
@@ -61,7 +61,7 @@ impl Model for MemLink {
       refused = l.refused;
     } };
 
-    ghost invariant = { λ l. (l.given ≤ vec_len l.input) × (l.calls ≤ vec_len l.plan) × (l.carried ≤ vec_len l.output) × (got_in l.marks.items ≡ l.given) × (put_in l.marks.items ≡ vec_len l.output) };
+    ghost invariant = { λ l. (l.given ≤ vec_len l.input) × (l.calls ≤ vec_len l.plan) × (l.carried ≤ vec_len l.output) × (received_count l.marks.items ≡ l.given) × (sent_count l.marks.items ≡ vec_len l.output) };
 }
 
 impl MemLink {
@@ -163,8 +163,8 @@ impl MemLink {
 impl Link for MemLink {
     ghost use Rattle.std.specs.Prelude.{Some};
     ghost use Rattle.rig_io.specs.Fault.{HasCause, StaysUnless};
-    ghost use Rattle.rig_io.specs.Link.{IsRead, IsWritten, Reads, Receives, Sends};
-    ghost use Rattle.rig_io.specs.MemLinks.{ReadsAs, WritesAs, sent_behind, serving};
+    ghost use Rattle.rig_io.specs.Link.{ReadInBounds, WriteInBounds, PollReads, Receives, Sends};
+    ghost use Rattle.rig_io.specs.MemLinks.{ReadByStep, WriteByStep, sent_after, serving};
 
     ghost pieces = { λ l. Some l.pieces };
 
@@ -178,9 +178,9 @@ impl Link for MemLink {
 
     fn poll_read(&mut self, buffer: &mut [u8]) -> LinkRead
         requires { 0 < length buffer.old }
-        ensures bound { IsRead result (length buffer.new) }
+        ensures bound { ReadInBounds result (length buffer.new) }
         ensures size { length buffer.new ≡ length buffer.old }
-        ensures bytes { Reads (Some (record { bytes = self.old.left; over = self.old.over })) (Some (record { bytes = self.new.left; over = self.new.over })) result buffer.new }
+        ensures bytes { PollReads (Some (record { bytes = self.old.left; over = self.old.over })) (Some (record { bytes = self.new.left; over = self.new.over })) result buffer.new }
         ensures pieces { Receives (Some self.old.pieces) (Some self.new.pieces) result buffer.new }
         ensures cause { HasCause self.old.faults self.new.faults (result ≡ LinkRead.Failed) }
         ensures stays { StaysUnless self.old.faults self.new.faults (result ≡ LinkRead.Failed) }
@@ -188,7 +188,7 @@ impl Link for MemLink {
         ensures awake { StaysUnless self.old.read_idles self.new.read_idles (result ≡ LinkRead.NotReady) }
         ensures writes { self.new.write_idles ≡ self.old.write_idles }
         ensures plan { self.new.plan ≡ drop 1 self.old.plan }
-        ensures exact { ReadsAs (serving (first_step self.old.plan) (length buffer.old)) (length self.old.left) self.old.over result self.old.refused self.new.refused }
+        ensures exact { ReadByStep (serving (first_step self.old.plan) (length buffer.old)) (length self.old.left) self.old.over result self.old.refused self.new.refused }
         ensures sent { (self.new.sent ≡ self.old.sent) × (self.new.carried ≡ self.old.carried) }
     {
         let limit = match self.step() {
@@ -209,7 +209,7 @@ impl Link for MemLink {
             return LinkRead::End;
         }
         let count = rest.len().min(limit);
-        if !note(&mut self.marks, Mark::Received(count)) {
+        if !note(&mut self.marks, Transfer::Received(count)) {
             self.refused = self.refused.saturating_add(1);
             self.faults = self.faults.saturating_add(1);
             return LinkRead::Failed;
@@ -221,7 +221,7 @@ impl Link for MemLink {
 
     fn poll_write(&mut self, piece: &[u8]) -> LinkWrite
         requires { 0 < length piece.now }
-        ensures bound { IsWritten result (length piece.now) }
+        ensures bound { WriteInBounds result (length piece.now) }
         ensures bytes { (self.new.left ≡ self.old.left) × (self.new.over ≡ self.old.over) }
         ensures pieces { Sends (Some self.old.pieces) (Some self.new.pieces) result piece.now }
         ensures cause { HasCause self.old.faults self.new.faults (result ≡ LinkWrite.Failed) }
@@ -230,8 +230,8 @@ impl Link for MemLink {
         ensures awake { StaysUnless self.old.write_idles self.new.write_idles (result ≡ LinkWrite.NotReady) }
         ensures reads { self.new.read_idles ≡ self.old.read_idles }
         ensures plan { self.new.plan ≡ drop 1 self.old.plan }
-        ensures exact { WritesAs (serving (first_step self.old.plan) (length piece.now)) result self.old.refused self.new.refused }
-        ensures sent { (self.new.sent ≡ sent_behind self.old.sent result piece.now) × (self.new.carried ≡ self.old.carried) }
+        ensures exact { WriteByStep (serving (first_step self.old.plan) (length piece.now)) result self.old.refused self.new.refused }
+        ensures sent { (self.new.sent ≡ sent_after self.old.sent result piece.now) × (self.new.carried ≡ self.old.carried) }
     {
         let limit = match self.step() {
             None => piece.len(),
@@ -256,19 +256,19 @@ impl Link for MemLink {
 }
 
 // Notes a call, or nothing for want of memory.
-fn note(marks: &mut Vec<Mark>, mark: Mark) -> bool
-    ensures ok { result ≡ true → marks.new.items ≡ marks.old.items ++ mark ∷ [] }
+fn note(marks: &mut Vec<Transfer>, transfer: Transfer) -> bool
+    ensures ok { result ≡ true → marks.new.items ≡ marks.old.items ++ transfer ∷ [] }
     ensures err { result ≡ false → marks.new.items ≡ marks.old.items }
 {
-    match marks.push(mark) {
+    match marks.push(transfer) {
         Ok(()) => true,
         Err(_) => false,
     }
 }
 
 // Keeps a piece that is sent, or nothing for want of memory.
-fn send(marks: &mut Vec<Mark>, output: &mut Vec<u8>, piece: &[u8]) -> bool
-    ensures ok { result ≡ true → (output.new.items ≡ output.old.items ++ piece.now) × (marks.new.items ≡ marks.old.items ++ Mark.Sent (length piece.now) ∷ []) }
+fn send(marks: &mut Vec<Transfer>, output: &mut Vec<u8>, piece: &[u8]) -> bool
+    ensures ok { result ≡ true → (output.new.items ≡ output.old.items ++ piece.now) × (marks.new.items ≡ marks.old.items ++ Transfer.Sent (length piece.now) ∷ []) }
     ensures err { result ≡ false → (output.new.items ≡ output.old.items) × (marks.new.items ≡ marks.old.items) }
 {
     match marks.reserve(1) {
@@ -277,7 +277,7 @@ fn send(marks: &mut Vec<Mark>, output: &mut Vec<u8>, piece: &[u8]) -> bool
     }
     match output.extend_from_slice(piece) {
         Ok(()) => {
-            marks.push_reserved(Mark::Sent(piece.len()));
+            marks.push_reserved(Transfer::Sent(piece.len()));
             true
         }
         Err(_) => false,

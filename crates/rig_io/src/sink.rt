@@ -15,7 +15,7 @@ pub enum Placed {
 /// A sink of bytes.
 pub trait Sink {
     ghost use Rattle.rig_io.specs.Fault.{HasCause, StaysUnless};
-    ghost use Rattle.rig_io.specs.Stream.{IsPlaced, Places};
+    ghost use Rattle.rig_io.specs.Stream.{PlacedInBounds, Places};
 
     /// The bytes placed so far, where the sink tells them.
     ghost placed: { Self → Option (List ℕ) };
@@ -26,7 +26,7 @@ pub trait Sink {
     /// Places at least one byte of the piece, unless the sink fails.
     fn put(&mut self, piece: &[u8]) -> Placed
         requires { 0 < length piece.now }
-        ensures bound { IsPlaced result (length piece.now) }
+        ensures bound { PlacedInBounds result (length piece.now) }
         ensures bytes { Places (placed self.old) (placed self.new) result piece.now }
         ensures cause { HasCause (faults self.old) (faults self.new) (result ≡ Placed.Failed) }
         ensures stays { StaysUnless (faults self.old) (faults self.new) (result ≡ Placed.Failed) };
@@ -47,9 +47,9 @@ pub struct MemSink {
 }
 
 impl Model for MemSink {
-    ghost use Rattle.rig_io.specs.Memory.{Output};
+    ghost use Rattle.rig_io.specs.Memory.{MemSinkState};
 
-    ghost Value = { Output };
+    ghost Value = { MemSinkState };
 
     ghost view = { λ s. record {
       bytes = s.bytes.items;
@@ -98,7 +98,7 @@ impl MemSink {
 impl Sink for MemSink {
     ghost use Rattle.std.specs.Prelude.{Some};
     ghost use Rattle.rig_io.specs.Fault.{HasCause, StaysUnless};
-    ghost use Rattle.rig_io.specs.Stream.{IsPlaced, Places};
+    ghost use Rattle.rig_io.specs.Stream.{PlacedInBounds, Places};
     ghost use Rattle.rig_io.specs.Memory.{FailsAtOrRefused, PutAll, next_call};
 
     ghost placed = { λ s. Some s.bytes };
@@ -107,7 +107,7 @@ impl Sink for MemSink {
 
     fn put(&mut self, piece: &[u8]) -> Placed
         requires { 0 < length piece.now }
-        ensures bound { IsPlaced result (length piece.now) }
+        ensures bound { PlacedInBounds result (length piece.now) }
         ensures bytes { Places (Some self.old.bytes) (Some self.new.bytes) result piece.now }
         ensures cause { HasCause self.old.faults self.new.faults (result ≡ Placed.Failed) }
         ensures stays { StaysUnless self.old.faults self.new.faults (result ≡ Placed.Failed) }

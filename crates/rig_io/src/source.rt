@@ -16,7 +16,7 @@ pub enum Took {
 /// A source of bytes.
 pub trait Source {
     ghost use Rattle.rig_io.specs.Fault.{HasCause, StaysUnless};
-    ghost use Rattle.rig_io.specs.Stream.{IsTook, Takes, Grows};
+    ghost use Rattle.rig_io.specs.Stream.{TookInBounds, Takes, TakenGrows};
 
     /// The bytes taken so far, where the source tells them.
     ghost taken: { Self → Option (List ℕ) };
@@ -30,9 +30,9 @@ pub trait Source {
     /// Takes at least one byte, unless the input is over or the source fails.
     fn take(&mut self, buffer: &mut [u8]) -> Took
         requires { 0 < length buffer.old }
-        ensures bound { IsTook result (length buffer.new) }
+        ensures bound { TookInBounds result (length buffer.new) }
         ensures bytes { Takes (left self.old) (left self.new) result buffer.new }
-        ensures grows { Grows (taken self.old) (taken self.new) result buffer.new }
+        ensures grows { TakenGrows (taken self.old) (taken self.new) result buffer.new }
         ensures cause { HasCause (faults self.old) (faults self.new) (result ≡ Took.Failed) }
         ensures stays { StaysUnless (faults self.old) (faults self.new) (result ≡ Took.Failed) };
 }
@@ -52,9 +52,9 @@ pub struct MemSource {
 
 impl Model for MemSource {
     ghost use Rattle.std.specs.Prelude.{◌≤◌, take, drop, vec_len};
-    ghost use Rattle.rig_io.specs.Memory.{Input};
+    ghost use Rattle.rig_io.specs.Memory.{MemSourceState};
 
-    ghost Value = { Input };
+    ghost Value = { MemSourceState };
 
     ghost view = { λ s. record {
       given = take s.at s.bytes.items;
@@ -91,7 +91,7 @@ impl MemSource {
 impl Source for MemSource {
     ghost use Rattle.std.specs.Prelude.{Some, min};
     ghost use Rattle.rig_io.specs.Fault.{HasCause, StaysUnless};
-    ghost use Rattle.rig_io.specs.Stream.{IsTook, Takes, Grows};
+    ghost use Rattle.rig_io.specs.Stream.{TookInBounds, Takes, TakenGrows};
     ghost use Rattle.rig_io.specs.Memory.{FailsAt, GotAll, next_call};
 
     ghost taken = { λ s. Some s.given };
@@ -102,9 +102,9 @@ impl Source for MemSource {
 
     fn take(&mut self, buffer: &mut [u8]) -> Took
         requires { 0 < length buffer.old }
-        ensures bound { IsTook result (length buffer.new) }
+        ensures bound { TookInBounds result (length buffer.new) }
         ensures bytes { Takes (Some self.old.rest) (Some self.new.rest) result buffer.new }
-        ensures grows { Grows (Some self.old.given) (Some self.new.given) result buffer.new }
+        ensures grows { TakenGrows (Some self.old.given) (Some self.new.given) result buffer.new }
         ensures cause { HasCause self.old.faults self.new.faults (result ≡ Took.Failed) }
         ensures stays { StaysUnless self.old.faults self.new.faults (result ≡ Took.Failed) }
         ensures exact { FailsAt self.old.failing self.old.calls (result ≡ Took.Failed) }

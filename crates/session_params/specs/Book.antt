@@ -6,20 +6,20 @@ use Rattle.table_model.specs.declared.reply.Reply.{Reply}
 use Rattle.table_model.specs.declared.reply.Reply.TheVariants as reply
 use Rattle.table_model.specs.Event.{Event}
 use Rattle.table_model.specs.Sessions.{live, params_of}
-use Rattle.session_params.specs.declared.Seat.{Seat}
+use Rattle.session_params.specs.declared.SessionRecord.{SessionRecord}
 use Rattle.session_params.specs.declared.SetEnd.{SetEnd}
 use Rattle.session_params.specs.declared.SetEnd.TheVariants.{Set, Unsupported, NotAllowed, Differs}
 
 -- a session and its parameters
-abbrev pub seat_of : List Event → ℕ → Seat
-seat_of past session = record { session = session; params = params_of past session }
+abbrev pub session_record_of : List Event → ℕ → SessionRecord
+session_record_of past session = record { session = session; params = params_of past session }
 
 -- the live sessions, the oldest first
-unfoldable pub seats_of : List Event → List Seat
-seats_of past = map (seat_of past) (live past)
+unfoldable pub session_records_of : List Event → List SessionRecord
+session_records_of past = map (session_record_of past) (live past)
 
-abbrev pub StandsFor : List Seat → List Event → Type 0
-StandsFor seats past = seats ≡ seats_of past
+abbrev pub StandsFor : List SessionRecord → List Event → Type 0
+StandsFor session_records past = session_records ≡ session_records_of past
 
 -- the reply that tells an end
 abbrev pub set_reply : SetEnd → Reply

@@ -7,9 +7,9 @@ ghost use Rattle.std.specs.Prelude.{◌≡◌, true, ◌++◌, ◌∷◌, [], Li
 ghost use Rattle.table_model.specs.Event.{Event};
 ghost use Rattle.table_model.specs.Reply.{reply_params};
 ghost use Rattle.table_model.specs.Sessions as history;
-ghost use Rattle.session_params.specs.Book.{StandsFor, seat_of, set_reply, began, asked_for, left};
-ghost use Rattle.session_params.specs.Rows.{is_of, is_entered, params_in, differing_in, seat_with, with_params};
-ghost use Rattle.session_params.specs.Ends.{set_end, seats_after};
+ghost use Rattle.session_params.specs.Book.{StandsFor, session_record_of, set_reply, began, asked_for, left};
+ghost use Rattle.session_params.specs.Rows.{is_of, is_entered, params_in, differing_in, session_record_with, with_params};
+ghost use Rattle.session_params.specs.Ends.{set_end, session_records_after};
 
 use std::alloc::{AllocError, Global};
 use std::marker::Model;
@@ -29,7 +29,7 @@ pub enum SetEnd {
 
 /// A session, and the parameters that were accepted of it, if any.
 #[derive(Clone, Copy, Debug, PartialEq, Eq)]
-pub struct Seat {
+pub struct SessionRecord {
     pub session: u64,
     pub params: Option<Params>,
 }
@@ -37,16 +37,16 @@ pub struct Seat {
 /// The live sessions, in the order in which they began.
 #[derive(Drop)]
 pub struct ParamBook {
-    seats: Vec<Seat>,
+    session_records: Vec<SessionRecord>,
 }
 
 impl Model for ParamBook {
     ghost use Rattle.std.specs.Prelude.{List};
-    ghost use Rattle.session_params.specs.declared.Seat.{Seat};
+    ghost use Rattle.session_params.specs.declared.SessionRecord.{SessionRecord};
 
-    ghost Value = { List Seat };
+    ghost Value = { List SessionRecord };
 
-    ghost view = { λ b. b.seats.items };
+    ghost view = { λ b. b.session_records.items };
 }
 
 impl ParamBook {
@@ -56,7 +56,7 @@ impl ParamBook {
         ensures stands { StandsFor result [] }
     {
         ParamBook {
-            seats: Vec::new(alloc),
+            session_records: Vec::new(alloc),
         }
     }
 
@@ -66,7 +66,7 @@ impl ParamBook {
         ensures err { OnErr result (self.new ≡ self.old) }
         ensures stands { OnOk result ((past : List Event) → StandsFor self.old past → session ≡ length past → history.params_of past session ≡ None → StandsFor self.new (began session ∷ past)) }
     {
-        self.seats.push(Seat {
+        self.session_records.push(SessionRecord {
             session,
             params: None,
         })?;
@@ -78,7 +78,7 @@ impl ParamBook {
         ensures found { result ≡ is_entered session self.now }
         ensures stands { (past : List Event) → StandsFor self.now past → result ≡ history.is_live past session }
     {
-        is_in(&self.seats, session)
+        is_in(&self.session_records, session)
     }
 
     /// The parameters that were accepted of the session, if any.
@@ -86,51 +86,51 @@ impl ParamBook {
         ensures found { result ≡ params_in session self.now }
         ensures stands { (past : List Event) → StandsFor self.now past → history.is_live past session ≡ true → result ≡ history.params_of past session }
     {
-        params_among(&self.seats, session)
+        params_among(&self.session_records, session)
     }
 
     /// The session with its parameters, if it was entered and hasn't left since.
-    pub fn seat(&self, session: u64) -> Option<Seat>
+    pub fn session_record(&self, session: u64) -> Option<SessionRecord>
         ensures found { result ≡ find (is_of session) self.now }
-        ensures stands { (past : List Event) → StandsFor self.now past → result ≡ (if history.is_live past session then Some (seat_of past session) else None) }
+        ensures stands { (past : List Event) → StandsFor self.now past → result ≡ (if history.is_live past session then Some (session_record_of past session) else None) }
     {
-        seat_of(&self.seats, session)
+        session_record_of(&self.session_records, session)
     }
 
     /// A session asks for parameters, which it may do once, and which must be those of the others.
     pub fn set(&mut self, session: u64, asked: AskedParams) -> SetEnd
         requires { IsTrue (is_entered session self.old) }
         ensures end { result ≡ set_end self.old session (history.supported asked) }
-        ensures seats { self.new ≡ seats_after result self.old session (history.supported asked) }
+        ensures session_records { self.new ≡ session_records_after result self.old session (history.supported asked) }
         ensures stands { (past : List Event) → StandsFor self.old past → (set_reply result ≡ reply_params past session asked) × StandsFor self.new (asked_for session asked result ∷ past) }
     {
-        set_among(&mut self.seats, session, asked)
+        set_among(&mut self.session_records, session, asked)
     }
 
     /// Removes a session, and its parameters with it.
     pub fn leave(&mut self, session: u64)
-        ensures rest { self.new ≡ filter (λ seat. not (is_of session seat)) self.old }
+        ensures rest { self.new ≡ filter (λ session_record. not (is_of session session_record)) self.old }
         ensures stands { (past : List Event) → StandsFor self.old past → StandsFor self.new (left session ∷ past) }
     {
-        remove(&mut self.seats, session);
+        remove(&mut self.session_records, session);
     }
 }
 
 // Sets the parameters of a session that is there, unless they are refused.
-fn set_among(seats: &mut Vec<Seat>, session: u64, asked: AskedParams) -> SetEnd
-    ensures end { result ≡ set_end seats.old.items session (history.supported asked) }
-    ensures seats { seats.new.items ≡ seats_after result seats.old.items session (history.supported asked) }
+fn set_among(session_records: &mut Vec<SessionRecord>, session: u64, asked: AskedParams) -> SetEnd
+    ensures end { result ≡ set_end session_records.old.items session (history.supported asked) }
+    ensures session_records { session_records.new.items ≡ session_records_after result session_records.old.items session (history.supported asked) }
 {
     let Some(params) = supported(asked) else {
         return SetEnd::Unsupported;
     };
-    if params_among(seats, session).is_some() {
+    if params_among(session_records, session).is_some() {
         return SetEnd::NotAllowed;
     }
-    if let Some(other) = differing(seats, session, params) {
+    if let Some(other) = differing(session_records, session, params) {
         return SetEnd::Differs(other);
     }
-    write(seats, session, params);
+    write(session_records, session, params);
     SetEnd::Set
 }
 
@@ -186,62 +186,67 @@ fn same_ack(a: AckType, b: AckType) -> bool
     }
 }
 
-fn is_in(seats: &[Seat], session: u64) -> bool
-    ensures { result ≡ is_entered session seats.now }
+fn is_in(session_records: &[SessionRecord], session: u64) -> bool
+    ensures { result ≡ is_entered session session_records.now }
 {
-    seats.iter().any(|seat| seat.session == session)
+    session_records
+        .iter()
+        .any(|session_record| session_record.session == session)
 }
 
-fn params_among(seats: &[Seat], session: u64) -> Option<Params>
-    ensures { result ≡ params_in session seats.now }
+fn params_among(session_records: &[SessionRecord], session: u64) -> Option<Params>
+    ensures { result ≡ params_in session session_records.now }
 {
-    match seat_of(seats, session) {
+    match session_record_of(session_records, session) {
         None => None,
-        Some(seat) => seat.params,
+        Some(session_record) => session_record.params,
     }
 }
 
-fn seat_of(seats: &[Seat], session: u64) -> Option<Seat>
-    ensures { result ≡ find (is_of session) seats.now }
+fn session_record_of(session_records: &[SessionRecord], session: u64) -> Option<SessionRecord>
+    ensures { result ≡ find (is_of session) session_records.now }
 {
-    seats.iter().copied().find(|seat| seat.session == session)
+    session_records
+        .iter()
+        .copied()
+        .find(|session_record| session_record.session == session)
 }
 
 // The parameters of another session that differ from these.
-fn differing(seats: &[Seat], session: u64, params: Params) -> Option<Params>
-    ensures { result ≡ differing_in session params seats.now }
+fn differing(session_records: &[SessionRecord], session: u64, params: Params) -> Option<Params>
+    ensures { result ≡ differing_in session params session_records.now }
 {
-    seats
+    session_records
         .iter()
-        .filter(|seat| seat.session != session)
-        .filter_map(|seat| seat.params)
+        .filter(|session_record| session_record.session != session)
+        .filter_map(|session_record| session_record.params)
         .find(|other| !same(params, *other))
 }
 
-fn write(seats: &mut Vec<Seat>, session: u64, params: Params)
-    ensures { seats.new.items ≡ with_params session (Some params) seats.old.items }
+fn write(session_records: &mut Vec<SessionRecord>, session: u64, params: Params)
+    ensures { session_records.new.items ≡ with_params session (Some params) session_records.old.items }
 {
-    for i in 0..seats.len() {
-        let seat = seats[i];
-        seats[i] = written(seat, session, params);
+    for i in 0..session_records.len() {
+        let session_record = session_records[i];
+        session_records[i] = written(session_record, session, params);
     }
 }
 
-fn written(seat: Seat, session: u64, params: Params) -> Seat
-    ensures { result ≡ seat_with session (Some params) seat }
+fn written(session_record: SessionRecord, session: u64, params: Params) -> SessionRecord
+    ensures { result ≡ session_record_with session (Some params) session_record }
 {
-    if seat.session == session {
-        Seat {
+    if session_record.session == session {
+        SessionRecord {
             session,
             params: Some(params),
         }
     } else {
-        seat
+        session_record
     }
 }
 
-fn remove(seats: &mut Vec<Seat>, session: u64)
-    ensures { seats.new.items ≡ filter (λ seat. not (is_of session seat)) seats.old.items }
+fn remove(session_records: &mut Vec<SessionRecord>, session: u64)
+    ensures { session_records.new.items ≡ filter (λ session_record. not (is_of session session_record)) session_records.old.items }
 {
-    seats.retain(|seat| seat.session != session);
+    session_records.retain(|session_record| session_record.session != session);
 }

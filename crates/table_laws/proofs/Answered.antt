@@ -10,14 +10,14 @@ use Rattle.table_model.specs.declared.command.Config.{Config}
 use Rattle.table_model.specs.declared.reply.Reply.TheVariants as reply
 use Rattle.table_model.specs.declared.results.FibResult.{FibResult}
 use Rattle.table_model.specs.Event.{Event}
-use Rattle.table_model.specs.Jobs.{task_at, Task, Turn, tasks, tasks_by, slots, turn_of, turned, outcome_of, number_eq, is_undone}
-use Rattle.table_model.specs.Laws.{handed, AllAnswered}
+use Rattle.table_model.specs.Jobs.{task_at, Task, JobUpdate, tasks, tasks_by, tracked_tasks, update_of, turned, outcome_of, number_eq, is_undone}
+use Rattle.table_model.specs.Laws.{collected_results, AllAnswered}
 use Rattle.table_model.specs.Legal.{IsLawful}
 use Rattle.table_model.specs.Reply.{reply_to, is_halted, is_gone}
 use Rattle.table_model.specs.Results.{results, result_by, wanted_by, failure, taken, batch, outstanding, is_awaited}
 use Rattle.table_laws.proofs.Ascending.{number, is_from, made_of, ascend}
-use Rattle.table_laws.proofs.Turns.{Each, Pairs, each_of, each_weaken, each_all, Before, ascending_pairs, number_same, apart, Taken, Said, slot_at}
-use Rattle.table_laws.proofs.InTurn.{WaitAhead, outcome_next, undone_turn, says, next_ahead, wait_ahead, from_le}
+use Rattle.table_laws.proofs.Updates.{Each, Pairs, each_of, each_weaken, each_all, Before, ascending_pairs, number_same, apart, Taken, Said, tracked_at}
+use Rattle.table_laws.proofs.InTurn.{WaitAhead, outcome_next, undone_update, says, next_ahead, wait_ahead, from_le}
 use Rattle.table_laws.proofs.Collected.{take_again, counted}
 
 -- Counts.
@@ -65,12 +65,12 @@ nothing_brought true = refl
 nothing_brought false = refl
 
 module _ (session : ℕ) (e : Event) (past : List Event) where
-  no_turn : turn_of e ≡ None → (ts : List Task) → tally (awaits session (e ∷ past)) ts ≡ tally (awaits session past) ts
-  no_turn is ts =
+  no_update : update_of e ≡ None → (ts : List Task) → tally (awaits session (e ∷ past)) ts ≡ tally (awaits session past) ts
+  no_update is ts =
       tally_same (awaits session (e ∷ past)) (awaits session past) ts
       (each_of (λ t. awaits session (e ∷ past) t ≡ awaits session past t) (λ t. ap (λ o. wanted_by session t && is_undone o) (outcome_next e past (number t) ∙ ap (λ o. turned o (number t) (outcome_of past (number t))) is)) ts)
 
-  module _ (turn : Turn) (is : turn_of e ≡ Some turn) (undone : is_undone (outcome_of past turn.number) ≡ true) where
+  module _ (turn : JobUpdate) (is : update_of e ≡ Some turn) (undone : is_undone (outcome_of past turn.number) ≡ true) where
     next_is : (t : Task) → outcome_of (e ∷ past) (number t) ≡ cond (number_eq turn.number (number t)) turn.outcome (outcome_of past (number t))
     next_is t = outcome_next e past (number t) ∙ ap (λ o. turned o (number t) (outcome_of past (number t))) is
 
@@ -106,10 +106,10 @@ module _ (session : ℕ) (e : Event) (past : List Event) where
         ap (λ o. brought (cond (number_eq turn.number (number x)) (Some x) (task_at turn.number ts)) + cond (wanted_by session x && is_undone o) (1 + tally (awaits session (e ∷ past)) ts) (tally (awaits session (e ∷ past)) ts)) (next_is x)
         ∙ step x ts lt.0 (moves ts lt.1) (number_eq turn.number (number x)) refl
 
-  old_jobs : (o : Option Turn) → turn_of e ≡ o → ((turn : Turn) → turn_of e ≡ Some turn → Taken past turn ⊎ Said past turn)
+  old_jobs : (o : Option JobUpdate) → update_of e ≡ o → ((turn : JobUpdate) → update_of e ≡ Some turn → Taken past turn ⊎ Said past turn)
       → length (option_to_list (result_by session (tasks past) o)) + tally (awaits session (e ∷ past)) (tasks past) ≡ tally (awaits session past) (tasks past)
-  old_jobs None is told = let same = no_turn is (tasks past) in omega arith
-  old_jobs (Some turn) is told = moves turn is (undone_turn past turn (told turn is)) (tasks past) (ascending_pairs (tasks past) (ascend past))
+  old_jobs None is told = let same = no_update is (tasks past) in omega arith
+  old_jobs (Some turn) is told = moves turn is (undone_update past turn (told turn is)) (tasks past) (ascending_pairs (tasks past) (ascend past))
 
   new_jobs : WaitAhead (e ∷ past) (length past) → tally (awaits session (e ∷ past)) (tasks_by e past) ≡ tally (wanted_by session) (tasks_by e past)
   new_jobs ahead =
@@ -128,16 +128,16 @@ unfolding results tasks
 balance config [] session lawful = refl
 balance config (e ∷ past) session lawful =
     let before = balance config past session lawful.1 in
-    let old = old_jobs session e past (turn_of e) refl (says config e past lawful) in
+    let old = old_jobs session e past (update_of e) refl (says config e past lawful) in
     let new = new_jobs session e past (next_ahead config e past lawful (wait_ahead config past lawful.1)) in
-    let longer = length-append (results past session) (option_to_list (result_by session (tasks past) (turn_of e))) in
+    let longer = length-append (results past session) (option_to_list (result_by session (tasks past) (update_of e))) in
     let waited = tally_append (awaits session (e ∷ past)) (tasks past) (tasks_by e past) in
     let wanted = tally_append (wanted_by session) (tasks past) (tasks_by e past) in
     omega arith
 
-awaited_is : (past : List Event) (session : ℕ) → tally (awaits session past) (tasks past) ≡ count_by (is_awaited session) (slots past)
-unfolding slots
-awaited_is past session = sym (tally_map (is_awaited session) (slot_at past) (tasks past)) ∙ is_count_by (tally (is_awaited session)) (is_awaited session) refl (λ _ _. refl) (map (slot_at past) (tasks past))
+awaited_is : (past : List Event) (session : ℕ) → tally (awaits session past) (tasks past) ≡ count_by (is_awaited session) (tracked_tasks past)
+unfolding tracked_tasks
+awaited_is past session = sym (tally_map (is_awaited session) (tracked_at past) (tasks past)) ∙ is_count_by (tally (is_awaited session)) (is_awaited session) refl (λ _ _. refl) (map (tracked_at past) (tasks past))
 
 -- what the reply says
 pub told : (given next : List FibResult) (said left : ℕ) (halted gone : Bool) → reply.Collected given said ≡ cond halted reply.Stopped (cond gone reply.Gone (reply.Collected next left)) → (given ≡ next) × (said ≡ left)
@@ -153,8 +153,8 @@ none_tallied : {X : Type 0} (p : X → Bool) (xs : List X) → tally p xs ≡ 0 
 none_tallied p [] h = refl
 none_tallied p (x ∷ xs) h = none_step (p x) (list_any p xs) (tally p xs) (none_tallied p xs) h
 
-all_handed : (before all next : List FibResult) (n : ℕ) → before ≡ take n all → next ≡ take 256 (drop n all) → length all ≤ n + length next → before ++ next ≡ all
-all_handed before all next n so_far which enough =
+all_collected : (before all next : List FibResult) (n : ℕ) → before ≡ take n all → next ≡ take 256 (drop n all) → length all ≤ n + length next → before ++ next ≡ all
+all_collected before all next n so_far which enough =
     let again : next ≡ take (length next) (drop n all) = which ∙ sym (take_again 256 (drop n all)) ∙ ap (λ x. take (length x) (drop n all)) (sym which) in
     ap (λ x. x ++ next) so_far ∙ ap (λ x. take n all ++ x) again ∙ sym (take-add n (length next) all) ∙ take_all (n + length next) all enough
 
@@ -162,10 +162,10 @@ pub all_answered : (config : Config) → AllAnswered config
 unfolding reply_to outstanding batch
 all_answered config past session given lawful =
     let says = told given (batch past session) 0 (outstanding past session) (is_halted past) (is_gone past (Collect session)) lawful.0 in
-    let none : count_by (is_awaited session) (slots past) + (length (results past session) - (taken past session + length (batch past session))) ≡ 0 = sym says.1 in
+    let none : count_by (is_awaited session) (tracked_tasks past) + (length (results past session) - (taken past session + length (batch past session))) ≡ 0 = sym says.1 in
     let left = balance config past session lawful.1 in
     let waits = awaited_is past session in
     let wants = is_count_by (tally (wanted_by session)) (wanted_by session) refl (λ _ _. refl) (tasks past) in
     let same = ap length says.0 in
-    let counts = is_count_by (tally (is_awaited session)) (is_awaited session) refl (λ _ _. refl) (slots past) in
-    (none_tallied (is_awaited session) (slots past) (omega arith), all_handed (handed past session) (results past session) given (taken past session) (counted config past session lawful.1).0 says.0 (omega arith), omega arith)
+    let counts = is_count_by (tally (is_awaited session)) (is_awaited session) refl (λ _ _. refl) (tracked_tasks past) in
+    (none_tallied (is_awaited session) (tracked_tasks past) (omega arith), all_collected (collected_results past session) (results past session) given (taken past session) (counted config past session lawful.1).0 says.0 (omega arith), omega arith)

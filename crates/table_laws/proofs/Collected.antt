@@ -10,8 +10,8 @@ use Rattle.table_model.specs.declared.command.Config.{Config}
 use Rattle.table_model.specs.declared.reply.Reply.{Reply}
 use Rattle.table_model.specs.declared.reply.Reply.TheVariants as reply
 use Rattle.table_model.specs.Event.{Event}
-use Rattle.table_model.specs.Jobs.{tasks, turn_of}
-use Rattle.table_model.specs.Laws.{event, handed, handed_by, batch_in, AnsweredOnce}
+use Rattle.table_model.specs.Jobs.{tasks, update_of}
+use Rattle.table_model.specs.Laws.{event, collected_results, results_collected_by, batch_in, AnsweredOnce}
 use Rattle.table_model.specs.Legal.{IsLawful}
 use Rattle.table_model.specs.Reply.{reply_to, is_halted, is_gone}
 use Rattle.table_model.specs.Results.{results, result_by, taken, collected_by, batch, batch_length, outstanding}
@@ -51,8 +51,8 @@ batch_of past session false false = record { how_many = refl; which = sym (take_
 
 -- and so does an event
 record Hands (past : List Event) (session : ℕ) (e : Event) : Type 0 where
-  pub how_many : collected_by session e ≡ length (handed_by session e)
-  pub which : handed_by session e ≡ take (length (handed_by session e)) (drop (taken past session) (results past session))
+  pub how_many : collected_by session e ≡ length (results_collected_by session e)
+  pub which : results_collected_by session e ≡ take (length (results_collected_by session e)) (drop (taken past session) (results past session))
 
 of_asker : (past : List Event) (session asker : ℕ) (r : Reply) (b : Bool) → (asker == session) ≡ b → (b ≡ true → IsBatch past session r) → Hands past session (event (Collect asker) r)
 of_asker past session asker r false is told = record { how_many = rw is refl; which = rw is refl }
@@ -77,13 +77,13 @@ hands config past session (Take x0 x1) r told = record { how_many = refl; which 
 hands config past session (Report x0 x1 x2) r told = record { how_many = refl; which = refl }
 hands config past session Halt r told = record { how_many = refl; which = refl }
 
-pub counted : (config : Config) (past : List Event) (session : ℕ) → IsLawful config past → (handed past session ≡ take (taken past session) (results past session)) × (taken past session ≤ length (results past session))
-unfolding handed taken results
+pub counted : (config : Config) (past : List Event) (session : ℕ) → IsLawful config past → (collected_results past session ≡ take (taken past session) (results past session)) × (taken past session ≤ length (results past session))
+unfolding collected_results taken results
 counted config [] session lawful = (refl, omega arith)
 counted config (e ∷ past) session lawful =
     let before = counted config past session lawful.1 in
     let next = hands config past session e.command e.reply lawful.0 in
-    one_more (handed past session) (results past session) (handed_by session e) (option_to_list (result_by session (tasks past) (turn_of e))) (taken past session) (collected_by session e) before.0 before.1 next.how_many next.which
+    one_more (collected_results past session) (results past session) (results_collected_by session e) (option_to_list (result_by session (tasks past) (update_of e))) (taken past session) (collected_by session e) before.0 before.1 next.how_many next.which
 
 pub answered_once : (config : Config) → AnsweredOnce config
 answered_once config past session lawful = (counted config past session lawful).0

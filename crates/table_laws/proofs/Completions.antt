@@ -12,30 +12,30 @@ use Rattle.table_model.specs.declared.reply.Reply.{Reply}
 use Rattle.table_model.specs.declared.reply.Reply.TheVariants as reply
 use Rattle.table_model.specs.declared.results.FibResult.{FibResult}
 use Rattle.table_model.specs.Event.{Event, is_reported}
-use Rattle.table_model.specs.Jobs.{task_at, Task, Turn, Outcome, Programmed, Faulted, PassedOver, tasks, turn_of, turn_taken, turned, reported, outcome_of, number_eq, is_undone, skip_reason}
+use Rattle.table_model.specs.Jobs.{task_at, Task, JobUpdate, Outcome, Programmed, Faulted, PassedOver, tasks, update_of, update_by_take, turned, reported, outcome_of, number_eq, is_undone, skip_reason}
 use Rattle.table_model.specs.Laws.{event, completes, CompletesOnce, ProgrammedWasReported}
 use Rattle.table_model.specs.Legal.{IsLawful}
 use Rattle.table_model.specs.Results.{result_by, wanted_by, failure}
-use Rattle.table_laws.proofs.InTurn.{undone_turn, says}
-use Rattle.table_laws.proofs.Turns.{number_same}
+use Rattle.table_laws.proofs.InTurn.{undone_update, says}
+use Rattle.table_laws.proofs.Updates.{number_same}
 
 -- None completes of a job that is undone, and at most one of any.
 module _ (n : JobNumber) (before : Outcome) (k : ℕ) (zero_if : is_undone before ≡ true → k ≡ 0) (low : k ≤ 1) where
   abbrev Once : Outcome → Bool → Type 0
   Once after done = (is_undone after ≡ true → cond done (1 + k) k ≡ 0) × (cond done (1 + k) k ≤ 1)
 
-  by_outcome : (turn : Turn) (b : Bool) → (b ≡ true → is_undone before ≡ true) → (d : Bool) → is_undone turn.outcome ≡ d → Once (cond b turn.outcome before) (b && not d)
+  by_outcome : (turn : JobUpdate) (b : Bool) → (b ≡ true → is_undone before ≡ true) → (d : Bool) → is_undone turn.outcome ≡ d → Once (cond b turn.outcome before) (b && not d)
   by_outcome turn false was d is = (zero_if, low)
   by_outcome turn true was true is = ((λ h. zero_if (was refl)), low)
   by_outcome turn true was false is = ((λ h. absurd (let no_way : false ≡ true = sym is ∙ h in cc)), let none_yet : k ≡ 0 = zero_if (was refl) in omega arith)
 
-  one_event : (o : Option Turn) → ((turn : Turn) → o ≡ Some turn → number_eq turn.number n ≡ true → is_undone before ≡ true) → Once (turned o n before) (completes n o)
+  one_event : (o : Option JobUpdate) → ((turn : JobUpdate) → o ≡ Some turn → number_eq turn.number n ≡ true → is_undone before ≡ true) → Once (turned o n before) (completes n o)
   one_event None was = (zero_if, low)
   one_event (Some turn) was = by_outcome turn (number_eq turn.number n) (was turn refl) (is_undone turn.outcome) refl
 
 abbrev completions : JobNumber → List Event → ℕ
 completions n [] = 0
-completions n (e ∷ past) = cond (completes n (turn_of e)) (1 + completions n past) (completions n past)
+completions n (e ∷ past) = cond (completes n (update_of e)) (1 + completions n past) (completions n past)
 
 abbrev AtMostOne : JobNumber → List Event → Type 0
 AtMostOne n past = (is_undone (outcome_of past n) ≡ true → completions n past ≡ 0) × (completions n past ≤ 1)
@@ -45,25 +45,25 @@ unfolding outcome_of
 at_most_one config n [] lawful = ((λ h. refl), omega arith)
 at_most_one config n (e ∷ past) lawful =
     let sooner = at_most_one config n past lawful.1 in
-    one_event n (outcome_of past n) (completions n past) sooner.0 sooner.1 (turn_of e)
-    (λ turn is here. ap (λ m. is_undone (outcome_of past m)) (sym (number_same turn.number n here)) ∙ undone_turn past turn (says config e past lawful turn is))
+    one_event n (outcome_of past n) (completions n past) sooner.0 sooner.1 (update_of e)
+    (λ turn is here. ap (λ m. is_undone (outcome_of past m)) (sym (number_same turn.number n here)) ∙ undone_update past turn (says config e past lawful turn is))
 
 pub completes_once : (config : Config) → CompletesOnce config
 completes_once config past lawful n =
     let Low : ℕ → Type 0 = λ k. k ≤ 1 in
-    subst Low (is_count_by (completions n) (λ e. completes n (turn_of e)) refl (λ _ _. refl) past) (at_most_one config n past lawful).1
+    subst Low (is_count_by (completions n) (λ e. completes n (update_of e)) refl (λ _ _. refl) past) (at_most_one config n past lawful).1
 
 -- Results.
 
 -- what a result says of its turn
-record Comes (session : ℕ) (made : List Task) (turn : Turn) (result : FibResult) : Type 0 where
+record Comes (session : ℕ) (made : List Task) (turn : JobUpdate) (result : FibResult) : Type 0 where
   pub task : Task
   pub found : task_at turn.number made ≡ Some task
   pub wanted : wanted_by session task ≡ true
   pub done : is_undone turn.outcome ≡ false
   pub is : record { id = task.id; failed = failure task turn.outcome; now = turn.now } ≡ result
 
-comes : (session : ℕ) (made : List Task) (turn : Turn) (result : FibResult) → result_by session made (Some turn) ≡ Some result → Comes session made turn result
+comes : (session : ℕ) (made : List Task) (turn : JobUpdate) (result : FibResult) → result_by session made (Some turn) ≡ Some result → Comes session made turn result
 comes session made turn result told = by_undone (is_undone turn.outcome) refl told
   where
     by_wanted : (task : Task) → task_at turn.number made ≡ Some task → is_undone turn.outcome ≡ false → (w : Bool) → wanted_by session task ≡ w
@@ -82,7 +82,7 @@ comes session made turn result told = by_undone (is_undone turn.outcome) refl to
     by_undone false is told = by_found (task_at turn.number made) refl is told
 
 -- a job that a worker took didn't come back as programmed
-not_taken : (session : ℕ) (made : List Task) (now : ℤ) (result : FibResult) (r : Reply) → result_by session made (turn_taken now r) ≡ Some result → result.failed ≡ None → ⊥
+not_taken : (session : ℕ) (made : List Task) (now : ℤ) (result : FibResult) (r : Reply) → result_by session made (update_by_take now r) ≡ Some result → result.failed ≡ None → ⊥
 not_taken session made now result (reply.Began x0) told fine = cc
 not_taken session made now result reply.ParamsSet told fine = cc
 not_taken session made now result reply.ParamsUnsupported told fine = cc
@@ -152,7 +152,7 @@ by_report session made number verdict.DeviceFault now r result true is told fine
     let came = comes session made (record { number = number; outcome = Faulted; now = now }) result told in
     let no_way : Some 20 ≡ result.failed = ap (λ (x : FibResult). x.failed) came.is in cc
 
-by_command : (session : ℕ) (made : List Task) (command : Command) (r : Reply) (result : FibResult) → result_by session made (turn_of (event command r)) ≡ Some result → result.failed ≡ None → WasReported session made command r result
+by_command : (session : ℕ) (made : List Task) (command : Command) (r : Reply) (result : FibResult) → result_by session made (update_of (event command r)) ≡ Some result → result.failed ≡ None → WasReported session made command r result
 by_command session made (Take worker now) r result told fine = absurd (not_taken session made now result r told fine)
 by_command session made (Report number said now) r result told fine = by_report session made number said now r result (is_reported r) refl told fine
 by_command session made Begin r result told fine = cc

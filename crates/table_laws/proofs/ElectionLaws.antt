@@ -6,7 +6,7 @@ use Rattle.std.proofs.lemmas.Bool.Decides.{nat_tests}
 use Rattle.table_model.specs.declared.command.Command.TheVariants.{Announce}
 use Rattle.table_model.specs.declared.command.Config.{Config}
 use Rattle.table_model.specs.declared.reply.Reply.TheVariants as reply
-use Rattle.table_model.specs.Election.{Announcement, announced, announcements, top_id, highest, primary, is_it, unless}
+use Rattle.table_model.specs.Election.{Announcement, announced, announcements, top_id, highest, primary, is_it, other_than}
 use Rattle.table_model.specs.Event.{Event}
 use Rattle.table_model.specs.Laws.{HighestNeverFalls, LatestIsPrimary, LowerIsNotPrimary}
 use Rattle.table_model.specs.Reply.{reply_to, reply_announce, is_halted}
@@ -38,7 +38,7 @@ latest config past session id told lawful high =
     let top : told ≡ max id (highest past) = here.1 in
     (omega arith, announced_top session id told past here.0 (grind (arith, nat_tests)))
 
-not_it : (session : ℕ) (won : Option ℕ) → is_it (unless session won) session ≡ false
+not_it : (session : ℕ) (won : Option ℕ) → is_it (other_than session won) session ≡ false
 not_it session None = refl
 not_it session (Some other) = by_same (nat_eq session other) refl
   where

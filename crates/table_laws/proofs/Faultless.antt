@@ -21,8 +21,8 @@ use Rattle.table_model.specs.declared.reply.Reply.{Reply}
 use Rattle.table_model.specs.declared.reply.Reply.TheVariants as reply
 use Rattle.table_model.specs.Election.{highest}
 use Rattle.table_model.specs.Event.{Event, is_reported}
-use Rattle.table_model.specs.Jobs.{Task, Turn, Outcome, Out, Programmed, PassedOver, tasks, slots, turn_of, turn_taken, turned, outcome_of, number_eq, number_lt, is_undone, is_out, is_waiting, is_programmed, is_skipped, conflict, effect, work_key, work_refs, touches, refs_before, fib}
-use Rattle.table_model.specs.Laws.{event, is_fault, is_skip, FaultlessIsSame}
+use Rattle.table_model.specs.Jobs.{Task, JobUpdate, Outcome, Out, Programmed, PassedOver, tasks, tracked_tasks, update_of, update_by_take, turned, outcome_of, number_eq, number_lt, is_undone, is_out, is_waiting, is_programmed, is_skipped, conflict, effect, work_key, work_refs, touches, refs_before, fib}
+use Rattle.table_model.specs.Laws.{event, is_fault, is_skip, FibIsRibWithoutFaults}
 use Rattle.table_model.specs.Legal.{IsLawful}
 use Rattle.table_model.specs.Reply.{reply_to, reply_params, params_reply, params_beside, reply_announce, reply_operate, operate_reply, is_halted, is_gone, may_flush}
 use Rattle.table_model.specs.Rib.{rib, verdict}
@@ -40,7 +40,7 @@ use Rattle.table_laws.proofs.MadeWell.{Made, AllMade, none_in}
 use Rattle.table_laws.proofs.Members.{passes_in, lookup_in}
 use Rattle.table_laws.proofs.Refused.{not_not}
 use Rattle.table_laws.proofs.Reports.{programs, done_fold, done_append, fib_is, in_order_programs, undone_not_programmed}
-use Rattle.table_laws.proofs.Turns.{Each, Pairs, each_both, Before, ascending_pairs, slot_at, Taken, taken_is}
+use Rattle.table_laws.proofs.Updates.{Each, Pairs, each_both, Before, ascending_pairs, tracked_at, Taken, taken_is}
 use Rattle.table_laws.proofs.Whole.{works, or_true, or_right_true, same_tables}
 
 -- Lists of jobs, cut at one.
@@ -250,18 +250,18 @@ before_by true false c d h lt go meets = cc
 before_by false l c d h lt go meets = go refl
 
 later_by : (past : List Event) (t x : Task) → is_waiting (outcome_of past (number t)) ≡ true → Waits past t x → conflict t x ≡ true → is_programmed (outcome_of past (number x)) ≡ false
-later_by past t x waits turns meets = by_wait (is_waiting (outcome_of past (number x))) refl
+later_by past t x waits updates meets = by_wait (is_waiting (outcome_of past (number x))) refl
   where
     by_wait : (b : Bool) → is_waiting (outcome_of past (number x)) ≡ b → is_programmed (outcome_of past (number x)) ≡ false
     by_wait true is = undone_not_programmed (outcome_of past (number x)) (waits_undone (outcome_of past (number x)) is)
-    by_wait false is = let no_way : true ≡ false = sym (waits_undone (outcome_of past (number t)) waits) ∙ turns meets is in cc
+    by_wait false is = let no_way : true ≡ false = sym (waits_undone (outcome_of past (number t)) waits) ∙ updates meets is in cc
 
 module _ (config : Config) (past : List Event) (lawful : IsLawful config past) (fine : NoneFailed past) where
-  taken_fits : (turn : Turn) (taken : Taken past turn) → is_skipped (fib past) taken.task.job.work ≡ false
+  taken_fits : (turn : JobUpdate) (taken : Taken past turn) → is_skipped (fib past) taken.task.job.work ≡ false
   taken_fits turn taken =
       let waits : is_waiting (outcome_of past (number taken.task)) ≡ true = ap (λ n. is_waiting (outcome_of past n)) (sym taken.of_it) ∙ taken.waited in
       let pairs = pairs_parts Before taken.front taken.back taken.task (subst (Pairs Before) taken.parts (ascending_pairs (tasks past) (ascend past))) in
-      let turns = pairs_parts (Waits past) taken.front taken.back taken.task (subst (Pairs (Waits past)) taken.parts (in_turn config past lawful)) in
+      let updates = pairs_parts (Waits past) taken.front taken.back taken.task (subst (Pairs (Waits past)) taken.parts (in_turn config past lawful)) in
       let free = each_parts (λ other. is_undone (outcome_of past (number other)) && number_lt (number other) (number taken.task) && conflict other taken.task ≡ false) taken.front taken.back taken.task
       (subst (Each (λ other. is_undone (outcome_of past (number other)) && number_lt (number other) (number taken.task) && conflict other taken.task ≡ false)) taken.parts taken.free) in
       ap (λ table. is_skipped table taken.task.job.work) (fib_is past ∙ ap (done_fold (outcome_of past) []) taken.parts)
@@ -269,7 +269,7 @@ module _ (config : Config) (past : List Event) (lawful : IsLawful config past) (
       (undone_not_programmed (outcome_of past (number taken.task)) (waits_undone (outcome_of past (number taken.task)) waits))
       (each_both (λ x. Before x taken.task) (λ x. is_undone (outcome_of past (number x)) && number_lt (number x) (number taken.task) && conflict x taken.task ≡ false) (λ x. DoneBefore (outcome_of past) taken.task x) taken.front
       (λ x lt unblocked. before_by (is_undone (outcome_of past (number x))) (number_lt (number x) (number taken.task)) (conflict x taken.task) (is_programmed (outcome_of past (number x))) unblocked lt (fine (number x))) pairs.0 free.0)
-      (each_both (Waits past taken.task) (Waits past taken.task) (λ x. NotYet (outcome_of past) taken.task x) taken.back (λ x w v. later_by past taken.task x waits w) turns.1 turns.1)
+      (each_both (Waits past taken.task) (Waits past taken.task) (λ x. NotYet (outcome_of past) taken.task x) taken.back (λ x w v. later_by past taken.task x waits w) updates.1 updates.1)
 
   -- Only a Take is answered Skipped.
   through : (a b : Bool) (r : Reply) → is_skip r ≡ false → is_skip (cond a reply.Stopped (cond b reply.Gone r)) ≡ false
@@ -324,30 +324,30 @@ module _ (config : Config) (past : List Event) (lawful : IsLawful config past) (
   not_skipped Halt r told = ap is_skip told
 
 -- what an event makes of a job, where no device fails and nothing is skipped
-turn_taken_fine : (now : ℤ) (r : Reply) → is_skip r ≡ false → (turn : Turn) → turn_taken now r ≡ Some turn → is_undone turn.outcome ≡ false → is_programmed turn.outcome ≡ true
-turn_taken_fine now (reply.Given job) fine turn is done = let one : record { number = job.number; outcome = Out; now = now } ≡ turn = cc in let no_way : true ≡ false = ap (λ (x : Turn). is_undone x.outcome) one ∙ done in cc
-turn_taken_fine now (reply.Skipped n) fine turn is done = cc
-turn_taken_fine now _ fine turn is done = cc
+update_by_take_fine : (now : ℤ) (r : Reply) → is_skip r ≡ false → (turn : JobUpdate) → update_by_take now r ≡ Some turn → is_undone turn.outcome ≡ false → is_programmed turn.outcome ≡ true
+update_by_take_fine now (reply.Given job) fine turn is done = let one : record { number = job.number; outcome = Out; now = now } ≡ turn = cc in let no_way : true ≡ false = ap (λ (x : JobUpdate). is_undone x.outcome) one ∙ done in cc
+update_by_take_fine now (reply.Skipped n) fine turn is done = cc
+update_by_take_fine now _ fine turn is done = cc
 
-turn_said_fine : (n : JobNumber) (now : ℤ) (b : Bool) (turn : Turn) → cond b (Some (record { number = n; outcome = Programmed; now = now })) None ≡ Some turn → is_programmed turn.outcome ≡ true
-turn_said_fine n now true turn is = let one : record { number = n; outcome = Programmed; now = now } ≡ turn = cc in ap (λ (x : Turn). is_programmed x.outcome) (sym one)
-turn_said_fine n now false turn is = cc
+update_said_fine : (n : JobNumber) (now : ℤ) (b : Bool) (turn : JobUpdate) → cond b (Some (record { number = n; outcome = Programmed; now = now })) None ≡ Some turn → is_programmed turn.outcome ≡ true
+update_said_fine n now true turn is = let one : record { number = n; outcome = Programmed; now = now } ≡ turn = cc in ap (λ (x : JobUpdate). is_programmed x.outcome) (sym one)
+update_said_fine n now false turn is = cc
 
-turn_fine : (command : Command) (r : Reply) → is_fault command ≡ false → is_skip r ≡ false → (turn : Turn) → turn_of (event command r) ≡ Some turn → is_undone turn.outcome ≡ false → is_programmed turn.outcome ≡ true
-turn_fine (Take worker now) r sound fine turn is done = turn_taken_fine now r fine turn is done
-turn_fine (Report n verdict.Programmed now) r sound fine turn is done = turn_said_fine n now (is_reported r) turn is
-turn_fine (Report n verdict.DeviceFault now) r sound fine turn is done = cc
-turn_fine Begin r sound fine turn is done = cc
-turn_fine (SetParams x0 x1) r sound fine turn is done = cc
-turn_fine (Announce x0 x1) r sound fine turn is done = cc
-turn_fine (Operate x0 x1 x2) r sound fine turn is done = cc
-turn_fine (Collect x0) r sound fine turn is done = cc
-turn_fine (Leave x0) r sound fine turn is done = cc
-turn_fine (Flush x0 x1 x2) r sound fine turn is done = cc
-turn_fine (Select x0 x1) r sound fine turn is done = cc
-turn_fine Halt r sound fine turn is done = cc
+update_fine : (command : Command) (r : Reply) → is_fault command ≡ false → is_skip r ≡ false → (turn : JobUpdate) → update_of (event command r) ≡ Some turn → is_undone turn.outcome ≡ false → is_programmed turn.outcome ≡ true
+update_fine (Take worker now) r sound fine turn is done = update_by_take_fine now r fine turn is done
+update_fine (Report n verdict.Programmed now) r sound fine turn is done = update_said_fine n now (is_reported r) turn is
+update_fine (Report n verdict.DeviceFault now) r sound fine turn is done = cc
+update_fine Begin r sound fine turn is done = cc
+update_fine (SetParams x0 x1) r sound fine turn is done = cc
+update_fine (Announce x0 x1) r sound fine turn is done = cc
+update_fine (Operate x0 x1 x2) r sound fine turn is done = cc
+update_fine (Collect x0) r sound fine turn is done = cc
+update_fine (Leave x0) r sound fine turn is done = cc
+update_fine (Flush x0 x1 x2) r sound fine turn is done = cc
+update_fine (Select x0 x1) r sound fine turn is done = cc
+update_fine Halt r sound fine turn is done = cc
 
-turned_fine : (o : Option Turn) (n : JobNumber) (before : Outcome) → ((turn : Turn) → o ≡ Some turn → is_undone turn.outcome ≡ false → is_programmed turn.outcome ≡ true) → (is_undone before ≡ false → is_programmed before ≡ true)
+turned_fine : (o : Option JobUpdate) (n : JobNumber) (before : Outcome) → ((turn : JobUpdate) → o ≡ Some turn → is_undone turn.outcome ≡ false → is_programmed turn.outcome ≡ true) → (is_undone before ≡ false → is_programmed before ≡ true)
     → is_undone (turned o n before) ≡ false → is_programmed (turned o n before) ≡ true
 turned_fine None n before turn old = old
 turned_fine (Some turn) n before now old = by_number (number_eq turn.number n)
@@ -360,8 +360,8 @@ none_failed : (past : List Event) → list_any (λ e. is_fault e.command) past �
 unfolding outcome_of
 none_failed [] sound fine n done = cc
 none_failed (e ∷ past) sound fine n done =
-    turned_fine (turn_of e) n (outcome_of past n)
-    (turn_fine e.command e.reply (or_left (is_fault e.command) (list_any (λ x. is_fault x.command) past) sound) (or_left (is_skip e.reply) (list_any (λ x. is_skip x.reply) past) fine))
+    turned_fine (update_of e) n (outcome_of past n)
+    (update_fine e.command e.reply (or_left (is_fault e.command) (list_any (λ x. is_fault x.command) past) sound) (or_left (is_skip e.reply) (list_any (λ x. is_skip x.reply) past) fine))
     (none_failed past (or_right (is_fault e.command) (list_any (λ x. is_fault x.command) past) sound) (or_right (is_skip e.reply) (list_any (λ x. is_skip x.reply) past) fine) n) done
 
 none_skipped : (config : Config) (past : List Event) → IsLawful config past → list_any (λ e. is_fault e.command) past ≡ false → list_any (λ e. is_skip e.reply) past ≡ false
@@ -371,18 +371,18 @@ none_skipped config (e ∷ past) lawful sound =
     let before = none_skipped config past lawful.1 sound_before in
     ap (λ b. b || list_any (λ x. is_skip x.reply) past) (not_skipped config past lawful.1 (none_failed past sound_before before) e.command e.reply lawful.0) ∙ before
 
-all_programmed : (past : List Event) → NoneFailed past → (ts : List Task) → list_any (λ slot. is_undone slot.outcome) (map (slot_at past) ts) ≡ false → list_all (λ slot. is_programmed slot.outcome) (map (slot_at past) ts) ≡ true
+all_programmed : (past : List Event) → NoneFailed past → (ts : List Task) → list_any (λ tracked. is_undone tracked.outcome) (map (tracked_at past) ts) ≡ false → list_all (λ tracked. is_programmed tracked.outcome) (map (tracked_at past) ts) ≡ true
 all_programmed past fine [] h = refl
 all_programmed past fine (t ∷ ts) h =
-    and_both (is_programmed (outcome_of past (number t))) (list_all (λ slot. is_programmed slot.outcome) (map (slot_at past) ts))
-    (fine (number t) (or_left (is_undone (outcome_of past (number t))) (list_any (λ slot. is_undone slot.outcome) (map (slot_at past) ts)) h))
-    (all_programmed past fine ts (or_right (is_undone (outcome_of past (number t))) (list_any (λ slot. is_undone slot.outcome) (map (slot_at past) ts)) h))
+    and_both (is_programmed (outcome_of past (number t))) (list_all (λ tracked. is_programmed tracked.outcome) (map (tracked_at past) ts))
+    (fine (number t) (or_left (is_undone (outcome_of past (number t))) (list_any (λ tracked. is_undone tracked.outcome) (map (tracked_at past) ts)) h))
+    (all_programmed past fine ts (or_right (is_undone (outcome_of past (number t))) (list_any (λ tracked. is_undone tracked.outcome) (map (tracked_at past) ts)) h))
 
-same_where_done : (past : List Event) → NoneFailed past → list_any (λ slot. is_undone slot.outcome) (slots past) ≡ false → fib past ≡ rib past
-unfolding slots
+same_where_done : (past : List Event) → NoneFailed past → list_any (λ tracked. is_undone tracked.outcome) (tracked_tasks past) ≡ false → fib past ≡ rib past
+unfolding tracked_tasks
 same_where_done past fine h = same_tables past (all_programmed past fine (tasks past) h)
 
-pub faultless : (config : Config) → FaultlessIsSame config
+pub faultless : (config : Config) → FibIsRibWithoutFaults config
 faultless config past lawful sound =
     let fine = none_skipped config past lawful sound in
     (fine, same_where_done past (none_failed past sound fine))

@@ -11,7 +11,7 @@ use Rattle.table_model.specs.declared.command.Config.{Config}
 use Rattle.table_model.specs.declared.job.Work.{Work}
 use Rattle.table_model.specs.declared.job.Work.TheVariants.{Install, Remove}
 use Rattle.table_model.specs.Event.{Event}
-use Rattle.table_model.specs.Jobs.{task_at, Task, Turn, Outcome, Waiting, tasks, tasks_by, turn_of, turned, outcome_of, number_eq, is_undone, is_out, is_programmed, is_skipped, conflict, effect, work_key, work_refs, touches, fib}
+use Rattle.table_model.specs.Jobs.{task_at, Task, JobUpdate, Outcome, Waiting, tasks, tasks_by, update_of, turned, outcome_of, number_eq, is_undone, is_out, is_programmed, is_skipped, conflict, effect, work_key, work_refs, touches, fib}
 use Rattle.table_model.specs.Laws.{is_closed, effect_of, programmed_by, fib_by_reports, FibIsClosed}
 use Rattle.table_model.specs.Legal.{IsLawful}
 use Rattle.table_model.specs.Table.{put, take_out, resolves, used}
@@ -21,7 +21,7 @@ use Rattle.table_laws.proofs.Ascending.{number, is_from, made_of}
 use Rattle.table_laws.proofs.InTurn.{Waits, WaitAhead, outcome_next, says, in_turn, next_ahead, wait_ahead, from_le, out_not_waits}
 use Rattle.table_laws.proofs.Refused.{not_not}
 use Rattle.table_laws.proofs.Reports.{fib_next, reports, out_undone}
-use Rattle.table_laws.proofs.Turns.{Each, Pairs, each_of, each_weaken, each_both, each_append, each_all, number_same, Taken, Said}
+use Rattle.table_laws.proofs.Updates.{Each, Pairs, each_of, each_weaken, each_both, each_append, each_all, number_same, Taken, Said}
 
 -- What a job that is done leaves to one that touches nothing of it.
 
@@ -54,8 +54,8 @@ pub record Apart (a b : Task) : Type 0 where
   pub one : is_among (work_key a.job.work) (work_refs b.job.work) ≡ false
   pub other : is_among (work_key b.job.work) (work_refs a.job.work) ≡ false
 
-turn_about : (a b : Task) → Apart a b → Apart b a
-turn_about a b h = record { one = h.other; other = h.one }
+update_about : (a b : Task) → Apart a b → Apart b a
+update_about a b h = record { one = h.other; other = h.one }
 
 untouched : (key : Key) (task : Task) → is_among key (touches task) ≡ false → is_among key (work_refs task.job.work) ≡ false
 untouched key task h = or_left (is_among key (work_refs task.job.work)) (is_among key task.before) (sym (list_any-append (key_eq key) (work_refs task.job.work) task.before) ∙ h)
@@ -118,11 +118,11 @@ pub record Holds (past : List Event) : Type 0 where
 
 module _ (past : List Event) (before : Holds past) where
   -- what the event does to the jobs so far, where it has this job done
-  record After (o : Option Turn) (done : Option Task) : Type 0 where
+  record After (o : Option JobUpdate) (done : Option Task) : Type 0 where
     pub closed : is_closed (effect_of done (fib past)) ≡ true
     pub ready : Each (λ t. Ready (effect_of done (fib past)) (turned o (number t) (outcome_of past (number t))) t) (tasks past)
 
-  module _ (turn : Turn) where
+  module _ (turn : JobUpdate) where
     -- the table stays
     idle : Each (λ t. number_eq turn.number (number t) ≡ true → Ready (fib past) turn.outcome t) (tasks past) → After (Some turn) None
     idle new = record {
@@ -167,7 +167,7 @@ module _ (past : List Event) (before : Holds past) where
         ready = each_both (λ t. (t ≡ x) ⊎ OutApart past x t) (λ t. Ready (fib past) (outcome_of past (number t)) t)
             (λ t. Ready (effect (fib past) x.job.work) (cond (number_eq turn.number (number t)) turn.outcome (outcome_of past (number t))) t) (tasks past)
             (λ t either old. one_step t either old (number_eq turn.number (number t)) refl)
-            (beside_found (Waits past) (OutApart past) (waits_apart past) (λ a b w one two. turn_about a b (waits_apart past a b w two one)) (λ task. number_eq turn.number task.job.number) x (tasks past) waits is)
+            (beside_found (Waits past) (OutApart past) (waits_apart past) (λ a b w one two. update_about a b (waits_apart past a b w two one)) (λ task. number_eq turn.number task.job.number) x (tasks past) waits is)
             before.ready;
       }
 
@@ -178,7 +178,7 @@ module _ (past : List Event) (before : Holds past) where
     by_done (inr said) waits true done None is = idle (each_of (λ t. number_eq turn.number (number t) ≡ true → Ready (fib past) turn.outcome t) (each_said said) (tasks past))
     by_done (inr said) waits false done o is = idle (each_of (λ t. number_eq turn.number (number t) ≡ true → Ready (fib past) turn.outcome t) (each_said said) (tasks past))
 
-  after : (o : Option Turn) → ((turn : Turn) → o ≡ Some turn → Taken past turn ⊎ Said past turn) → Pairs (Waits past) (tasks past)
+  after : (o : Option JobUpdate) → ((turn : JobUpdate) → o ≡ Some turn → Taken past turn ⊎ Said past turn) → Pairs (Waits past) (tasks past)
       → After o (option_and_then (λ turn. cond (is_programmed turn.outcome) (task_at turn.number (tasks past)) None) o)
   after None told waits = record { closed = before.closed; ready = before.ready }
   after (Some turn) told waits = by_done turn (told turn refl) waits (is_programmed turn.outcome) refl (task_at turn.number (tasks past)) refl
@@ -202,12 +202,12 @@ module _ (config : Config) where
   next : (e : Event) (past : List Event) → IsLawful config (e ∷ past) → Holds past → Holds (e ∷ past)
   unfolding tasks
   next e past lawful before =
-      let step = after past before (turn_of e) (says config e past lawful) (in_turn config past lawful.1) in
+      let step = after past before (update_of e) (says config e past lawful) (in_turn config past lawful.1) in
       let table : fib (e ∷ past) ≡ effect_of (programmed_by past e) (fib past) = fib_next config e past lawful in
       record {
         closed = ap is_closed table ∙ step.closed;
         ready = each_append (λ t. Ready (fib (e ∷ past)) (outcome_of (e ∷ past) (number t)) t) (tasks past) (tasks_by e past)
-            (each_weaken (λ t. Ready (effect_of (programmed_by past e) (fib past)) (turned (turn_of e) (number t) (outcome_of past (number t))) t) (λ t. Ready (fib (e ∷ past)) (outcome_of (e ∷ past) (number t)) t) (tasks past)
+            (each_weaken (λ t. Ready (effect_of (programmed_by past e) (fib past)) (turned (update_of e) (number t) (outcome_of past (number t))) t) (λ t. Ready (fib (e ∷ past)) (outcome_of (e ∷ past) (number t)) t) (tasks past)
             (λ t h out. ap (λ x. is_skipped x t.job.work) table ∙ h (sym (ap is_out (outcome_next e past (number t))) ∙ out)) step.ready)
             (new_ready (fib (e ∷ past)) e past (next_ahead config e past lawful (wait_ahead config past lawful.1)));
       }

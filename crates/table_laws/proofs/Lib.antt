@@ -5,7 +5,7 @@ pub mod RibLaws
 pub mod Acknowledged
 pub mod ElectionLaws
 pub mod Ascending
-pub mod Turns
+pub mod Updates
 pub mod InTurn
 pub mod Reports
 pub mod Completions
@@ -13,7 +13,7 @@ pub mod Collected
 pub mod Answered
 mod FibClosed
 mod Boards
-mod Handed
+mod CollectedResults
 mod Owed
 mod Whole
 mod Members

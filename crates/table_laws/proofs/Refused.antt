@@ -5,7 +5,7 @@ use Rattle.aft_entries.specs.declared.entry.Entry.{Entry}
 use Rattle.aft_entries.specs.declared.key.Key.{Key}
 use Rattle.aft_entries.specs.declared.operation.Ask.TheVariants.{Put, Remove}
 use Rattle.aft_entries.specs.declared.operation.Reason.TheVariants.{UnknownInstance, BadKey, BadPayload, NotThere, Unresolved, BackupDepth, InUse, TableFull}
-use Rattle.aft_entries.specs.Naming.{first_that_holds}
+use Rattle.aft_entries.specs.InstanceNames.{first_that_holds}
 use Rattle.table_model.specs.Table.{has, resolves, used, refusal, is_bad_name, is_bad_payload, is_too_deep}
 
 -- where no test holds, these don't

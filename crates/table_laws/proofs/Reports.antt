@@ -11,7 +11,7 @@ use Rattle.table_model.specs.declared.job.Work.{Work}
 use Rattle.table_model.specs.declared.job.Work.TheVariants.{Install, Remove}
 use Rattle.table_model.specs.declared.reply.Reply.TheVariants as reply
 use Rattle.table_model.specs.Event.{Event}
-use Rattle.table_model.specs.Jobs.{task_at, Task, Turn, Slot, Outcome, Waiting, Out, Programmed, Faulted, PassedOver, tasks, tasks_by, slots, turn_of, turned, outcome_of, number_eq, is_undone, is_out, is_waiting, is_programmed, conflict, effect, work_key, touches, fib, table_of}
+use Rattle.table_model.specs.Jobs.{task_at, Task, JobUpdate, TrackedTask, Outcome, Waiting, Out, Programmed, Faulted, PassedOver, tasks, tasks_by, tracked_tasks, update_of, turned, outcome_of, number_eq, is_undone, is_out, is_waiting, is_programmed, conflict, effect, work_key, touches, fib, table_of}
 use Rattle.table_model.specs.Laws.{event, left_by, effect_of, programmed_by, fib_by_reports, ReportsGiveFib, ProgrammedIsThere, ConflictsInOrder, OutAreApart}
 use Rattle.table_model.specs.Legal.{IsLawful}
 use Rattle.table_model.specs.Table.{in_order, lookup}
@@ -20,8 +20,8 @@ use Rattle.table_model.proofs.Effects as effects
 use Rattle.table_model.proofs.TableLemmas.{in_order_empty}
 use Rattle.aft_entries.specs.References.{is_among}
 use Rattle.table_laws.proofs.Ascending.{number, is_from, made_of, ascend}
-use Rattle.table_laws.proofs.Turns.{Each, Pairs, each_of, each_weaken, each_all, Before, ascending_pairs, number_same, apart, Taken, Said, slot_at}
-use Rattle.table_laws.proofs.InTurn.{Waits, WaitAhead, outcome_next, undone_turn, says, in_turn, next_ahead, wait_ahead, from_le, out_not_waits}
+use Rattle.table_laws.proofs.Updates.{Each, Pairs, each_of, each_weaken, each_all, Before, ascending_pairs, number_same, apart, Taken, Said, tracked_at}
+use Rattle.table_laws.proofs.InTurn.{Waits, WaitAhead, outcome_next, undone_update, says, in_turn, next_ahead, wait_ahead, from_le, out_not_waits}
 
 -- Programmed jobs, one after the other.
 
@@ -32,21 +32,21 @@ abbrev pub done_fold : (JobNumber → Outcome) → List Entry → List Task → 
 done_fold f table [] = table
 done_fold f table (t ∷ ts) = done_fold f (programs f table t) ts
 
-abbrev step : List Entry → Slot → List Entry
-step table slot = effect table slot.task.job.work
+abbrev step : List Entry → TrackedTask → List Entry
+step table tracked = effect table tracked.task.job.work
 
-fold_is : (past : List Event) (table : List Entry) (ts : List Task) → fold step table (filter (λ slot. is_programmed slot.outcome) (map (slot_at past) ts)) ≡ done_fold (outcome_of past) table ts
+fold_is : (past : List Event) (table : List Entry) (ts : List Task) → fold step table (filter (λ tracked. is_programmed tracked.outcome) (map (tracked_at past) ts)) ≡ done_fold (outcome_of past) table ts
 fold_is past table [] = refl
 fold_is past table (t ∷ ts) = by_done (is_programmed (outcome_of past (number t))) (fold_is past (effect table t.job.work) ts) (fold_is past table ts)
   where
-    by_done : (b : Bool) → fold step (effect table t.job.work) (filter (λ slot. is_programmed slot.outcome) (map (slot_at past) ts)) ≡ done_fold (outcome_of past) (effect table t.job.work) ts
-        → fold step table (filter (λ slot. is_programmed slot.outcome) (map (slot_at past) ts)) ≡ done_fold (outcome_of past) table ts
-        → fold step table (cond b (slot_at past t ∷ filter (λ slot. is_programmed slot.outcome) (map (slot_at past) ts)) (filter (λ slot. is_programmed slot.outcome) (map (slot_at past) ts))) ≡ done_fold (outcome_of past) (cond b (effect table t.job.work) table) ts
+    by_done : (b : Bool) → fold step (effect table t.job.work) (filter (λ tracked. is_programmed tracked.outcome) (map (tracked_at past) ts)) ≡ done_fold (outcome_of past) (effect table t.job.work) ts
+        → fold step table (filter (λ tracked. is_programmed tracked.outcome) (map (tracked_at past) ts)) ≡ done_fold (outcome_of past) table ts
+        → fold step table (cond b (tracked_at past t ∷ filter (λ tracked. is_programmed tracked.outcome) (map (tracked_at past) ts)) (filter (λ tracked. is_programmed tracked.outcome) (map (tracked_at past) ts))) ≡ done_fold (outcome_of past) (cond b (effect table t.job.work) table) ts
     by_done true h k = h
     by_done false h k = k
 
 pub fib_is : (past : List Event) → fib past ≡ done_fold (outcome_of past) [] (tasks past)
-unfolding fib table_of slots
+unfolding fib table_of tracked_tasks
 fib_is past = fold_is past [] (tasks past)
 
 pub done_append : (f : JobNumber → Outcome) (table : List Entry) (xs ys : List Task) → done_fold f table (xs ++ ys) ≡ done_fold f (done_fold f table xs) ys
@@ -121,21 +121,21 @@ undone_not_programmed PassedOver h = cc
 -- One event.
 
 module _ (e : Event) (past : List Event) where
-  same_outcomes : turn_of e ≡ None → (t : Task) → Alike (outcome_of (e ∷ past)) (outcome_of past) t
+  same_outcomes : update_of e ≡ None → (t : Task) → Alike (outcome_of (e ∷ past)) (outcome_of past) t
   same_outcomes is t = ap is_programmed (outcome_next e past (number t) ∙ ap (λ o. turned o (number t) (outcome_of past (number t))) is)
 
-  next_is : (turn : Turn) → turn_of e ≡ Some turn → (t : Task) → outcome_of (e ∷ past) (number t) ≡ cond (number_eq turn.number (number t)) turn.outcome (outcome_of past (number t))
+  next_is : (turn : JobUpdate) → update_of e ≡ Some turn → (t : Task) → outcome_of (e ∷ past) (number t) ≡ cond (number_eq turn.number (number t)) turn.outcome (outcome_of past (number t))
   next_is turn is t = outcome_next e past (number t) ∙ ap (λ o. turned o (number t) (outcome_of past (number t))) is
 
   -- a turn that programs nothing
-  idle_turn : (turn : Turn) → turn_of e ≡ Some turn → is_undone (outcome_of past turn.number) ≡ true → is_programmed turn.outcome ≡ false → (t : Task) → Alike (outcome_of (e ∷ past)) (outcome_of past) t
-  idle_turn turn is undone left t = ap is_programmed (next_is turn is t) ∙ by_same (number_eq turn.number (number t)) refl
+  idle_update : (turn : JobUpdate) → update_of e ≡ Some turn → is_undone (outcome_of past turn.number) ≡ true → is_programmed turn.outcome ≡ false → (t : Task) → Alike (outcome_of (e ∷ past)) (outcome_of past) t
+  idle_update turn is undone left t = ap is_programmed (next_is turn is t) ∙ by_same (number_eq turn.number (number t)) refl
     where
       by_same : (b : Bool) → number_eq turn.number (number t) ≡ b → is_programmed (cond b turn.outcome (outcome_of past (number t))) ≡ is_programmed (outcome_of past (number t))
       by_same false here = refl
       by_same true here = left ∙ sym (ap (λ n. is_programmed (outcome_of past n)) (sym (number_same turn.number (number t) here)) ∙ undone_not_programmed (outcome_of past turn.number) undone)
 
-  module _ (turn : Turn) (is : turn_of e ≡ Some turn) (was_out : is_out (outcome_of past turn.number) ≡ true) (now_done : is_programmed turn.outcome ≡ true) where
+  module _ (turn : JobUpdate) (is : update_of e ≡ Some turn) (was_out : is_out (outcome_of past turn.number) ≡ true) (now_done : is_programmed turn.outcome ≡ true) where
     beside : (t : Task) → number_eq turn.number (number t) ≡ false → Alike (outcome_of (e ∷ past)) (outcome_of past) t
     beside t far = ap is_programmed (next_is turn is t ∙ ap (λ b. cond b turn.outcome (outcome_of past (number t))) far)
 
@@ -176,18 +176,18 @@ module _ (e : Event) (past : List Event) where
     late (x ∷ ts) lt waits table sorted =
         late_step x ts table sorted lt.0 waits.0 (late ts lt.1 waits.1 (programs (outcome_of past) table x) (in_order_programs (outcome_of past) table x sorted)) (number_eq turn.number (number x)) refl
 
-  taken_idle : (turn : Turn) → turn_of e ≡ Some turn → Taken past turn ⊎ Said past turn → is_programmed turn.outcome ≡ true → is_out (outcome_of past turn.number) ≡ true
+  taken_idle : (turn : JobUpdate) → update_of e ≡ Some turn → Taken past turn ⊎ Said past turn → is_programmed turn.outcome ≡ true → is_out (outcome_of past turn.number) ≡ true
   taken_idle turn is (inl taken) done = let no_way : false ≡ true = sym taken.not_done ∙ done in cc
   taken_idle turn is (inr said) done = said.was_out
 
   -- what the event does to the table of the jobs so far
-  one_more : (o : Option Turn) → turn_of e ≡ o → ((turn : Turn) → turn_of e ≡ Some turn → Taken past turn ⊎ Said past turn) → Pairs (Waits past) (tasks past)
+  one_more : (o : Option JobUpdate) → update_of e ≡ o → ((turn : JobUpdate) → update_of e ≡ Some turn → Taken past turn ⊎ Said past turn) → Pairs (Waits past) (tasks past)
       → done_fold (outcome_of (e ∷ past)) [] (tasks past) ≡ effect_of (option_and_then (λ turn. cond (is_programmed turn.outcome) (task_at turn.number (tasks past)) None) o) (done_fold (outcome_of past) [] (tasks past))
   one_more None is told waits = done_same (outcome_of (e ∷ past)) (outcome_of past) [] (tasks past) (each_of (Alike (outcome_of (e ∷ past)) (outcome_of past)) (same_outcomes is) (tasks past))
   one_more (Some turn) is told waits = by_done (is_programmed turn.outcome) refl
     where
       by_done : (b : Bool) → is_programmed turn.outcome ≡ b → done_fold (outcome_of (e ∷ past)) [] (tasks past) ≡ effect_of (cond b (task_at turn.number (tasks past)) None) (done_fold (outcome_of past) [] (tasks past))
-      by_done false left = done_same (outcome_of (e ∷ past)) (outcome_of past) [] (tasks past) (each_of (Alike (outcome_of (e ∷ past)) (outcome_of past)) (idle_turn turn is (undone_turn past turn (told turn is)) left) (tasks past))
+      by_done false left = done_same (outcome_of (e ∷ past)) (outcome_of past) [] (tasks past) (each_of (Alike (outcome_of (e ∷ past)) (outcome_of past)) (idle_update turn is (undone_update past turn (told turn is)) left) (tasks past))
       by_done true done = late turn is (taken_idle turn is (told turn is) done) done (tasks past) (ascending_pairs (tasks past) (ascend past)) waits [] in_order_empty
 
 -- the jobs that the event makes are not programmed
@@ -203,7 +203,7 @@ fib_next config e past lawful =
     fib_is (e ∷ past)
     ∙ done_append (outcome_of (e ∷ past)) [] (tasks past) (tasks_by e past)
     ∙ done_none (outcome_of (e ∷ past)) (done_fold (outcome_of (e ∷ past)) [] (tasks past)) (tasks_by e past) (new_waiting e past (next_ahead config e past lawful (wait_ahead config past lawful.1)))
-    ∙ one_more e past (turn_of e) refl (says config e past lawful) (in_turn config past lawful.1)
+    ∙ one_more e past (update_of e) refl (says config e past lawful) (in_turn config past lawful.1)
     ∙ ap (effect_of (programmed_by past e)) (sym (fib_is past))
 
 pub reports : (config : Config) → ReportsGiveFib config
@@ -222,27 +222,27 @@ programmed_there config past job now task lawful is =
 
 -- Two jobs of a board.
 
-abbrev AtTask : List Event → Slot → Type 0
-AtTask past slot = slot.outcome ≡ outcome_of past (number slot.task)
+abbrev AtTask : List Event → TrackedTask → Type 0
+AtTask past tracked = tracked.outcome ≡ outcome_of past (number tracked.task)
 
-split_each : (past : List Event) (P : Task → Type 0) (middle after : List Slot) (b : Slot) (ts : List Task) → map (slot_at past) ts ≡ middle ++ b ∷ after → Each P ts → P b.task × AtTask past b
+split_each : (past : List Event) (P : Task → Type 0) (middle after : List TrackedTask) (b : TrackedTask) (ts : List Task) → map (tracked_at past) ts ≡ middle ++ b ∷ after → Each P ts → P b.task × AtTask past b
 split_each past P [] after b [] is h = cc
 split_each past P (m ∷ middle) after b [] is h = cc
-split_each past P [] after b (t ∷ ts) is h = let one : slot_at past t ≡ b = cc in rw (← one) (h.0, refl)
-split_each past P (m ∷ middle) after b (t ∷ ts) is h = let rest : map (slot_at past) ts ≡ middle ++ b ∷ after = cc in split_each past P middle after b ts rest h.1
+split_each past P [] after b (t ∷ ts) is h = let one : tracked_at past t ≡ b = cc in rw (← one) (h.0, refl)
+split_each past P (m ∷ middle) after b (t ∷ ts) is h = let rest : map (tracked_at past) ts ≡ middle ++ b ∷ after = cc in split_each past P middle after b ts rest h.1
 
-split_pairs : (past : List Event) (R : Task → Task → Type 0) (before middle after : List Slot) (a b : Slot) (ts : List Task) → map (slot_at past) ts ≡ before ++ a ∷ middle ++ b ∷ after → Pairs R ts → R a.task b.task × AtTask past a × AtTask past b
+split_pairs : (past : List Event) (R : Task → Task → Type 0) (before middle after : List TrackedTask) (a b : TrackedTask) (ts : List Task) → map (tracked_at past) ts ≡ before ++ a ∷ middle ++ b ∷ after → Pairs R ts → R a.task b.task × AtTask past a × AtTask past b
 split_pairs past R [] middle after a b [] is h = cc
 split_pairs past R (c ∷ before) middle after a b [] is h = cc
 split_pairs past R [] middle after a b (t ∷ ts) is h =
-    let one : slot_at past t ≡ a = cc in
-    let rest : map (slot_at past) ts ≡ middle ++ b ∷ after = cc in
+    let one : tracked_at past t ≡ a = cc in
+    let rest : map (tracked_at past) ts ≡ middle ++ b ∷ after = cc in
     let two = split_each past (R t) middle after b ts rest h.0 in
     rw (← one) (two.0, refl, two.1)
-split_pairs past R (c ∷ before) middle after a b (t ∷ ts) is h = let rest : map (slot_at past) ts ≡ before ++ a ∷ middle ++ b ∷ after = cc in split_pairs past R before middle after a b ts rest h.1
+split_pairs past R (c ∷ before) middle after a b (t ∷ ts) is h = let rest : map (tracked_at past) ts ≡ before ++ a ∷ middle ++ b ∷ after = cc in split_pairs past R before middle after a b ts rest h.1
 
 pub conflicts_in_order : (config : Config) → ConflictsInOrder config
-unfolding slots
+unfolding tracked_tasks
 conflicts_in_order config past lawful before middle after a b is meets moved =
     let two = split_pairs past (Waits past) before middle after a b (tasks past) is (in_turn config past lawful) in
     ap is_undone two.1 ∙ two.0 meets (sym (ap is_waiting two.2) ∙ moved)

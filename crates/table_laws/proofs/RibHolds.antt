@@ -12,9 +12,9 @@ use Rattle.table_model.specs.declared.command.Operation.{Operation}
 use Rattle.table_model.specs.declared.reply.Reply.{Reply}
 use Rattle.table_model.specs.declared.reply.Reply.TheVariants as reply
 use Rattle.table_model.specs.Event.{Event, is_done, is_left, is_flushed}
-use Rattle.table_model.specs.Legal.{IsLawful, is_formed, is_formed_ask}
+use Rattle.table_model.specs.Legal.{IsLawful, is_well_formed, is_well_formed_ask}
 use Rattle.table_model.specs.Reply.{reply_to, reply_operate, operate_reply, is_halted, is_gone}
-use Rattle.table_model.specs.Rib.{rib, purges, verdict, is_id}
+use Rattle.table_model.specs.Rib.{rib, purges, verdict, is_same_id}
 use Rattle.table_model.specs.Table.{performed, refusal}
 use Rattle.table_model.specs.Election.{is_primary, highest}
 use Rattle.aft_entries.specs.declared.operation.Reason.TheVariants.{NotPrimary, ElectionIdDiffers}
@@ -43,11 +43,11 @@ by_reasons false false p q o h = h
 
 pub verdict_refusal : (config : Config) (past : List Event) (session : ℕ) (operation : Operation) → verdict config past session operation ≡ None → refusal config.instances config.limit (rib past) operation.ask ≡ None
 unfolding verdict
-verdict_refusal config past session operation h = by_reasons (not (is_primary past session)) (not (is_id operation.election (highest past))) NotPrimary ElectionIdDiffers (refusal config.instances config.limit (rib past) operation.ask) h
+verdict_refusal config past session operation h = by_reasons (not (is_primary past session)) (not (is_same_id operation.election (highest past))) NotPrimary ElectionIdDiffers (refusal config.instances config.limit (rib past) operation.ask) h
 
-module _ (Q : List Entry → Type 0) (empty : Q []) (performs : (instances limit : ℕ) (table : List Entry) (ask : Ask) → refusal instances limit table ask ≡ None → is_formed_ask ask ≡ true → Q table → Q (performed ask table)) (flushes : (table : List Entry) (which : Which) → Q table → Q (kept table which)) where
+module _ (Q : List Entry → Type 0) (empty : Q []) (performs : (instances limit : ℕ) (table : List Entry) (ask : Ask) → refusal instances limit table ask ≡ None → is_well_formed_ask ask ≡ true → Q table → Q (performed ask table)) (flushes : (table : List Entry) (which : Which) → Q table → Q (kept table which)) where
   module _ (config : Config) (past : List Event) (holds : Q (rib past)) where
-    operate_holds : (session : ℕ) (operation : Operation) (now : ℤ) (r : Reply) → r ≡ reply_to config past (Operate session operation now) → is_formed_ask operation.ask ≡ true → Q (cond (is_done r) (performed operation.ask (rib past)) (rib past))
+    operate_holds : (session : ℕ) (operation : Operation) (now : ℤ) (r : Reply) → r ≡ reply_to config past (Operate session operation now) → is_well_formed_ask operation.ask ≡ true → Q (cond (is_done r) (performed operation.ask (rib past)) (rib past))
     operate_holds session operation now reply.RibDone told formed = performs config.instances config.limit (rib past) operation.ask (verdict_refusal config past session operation (done_verdict config past session operation now (sym told))) formed holds
     operate_holds session operation now _ told formed = holds
 
@@ -59,7 +59,7 @@ module _ (Q : List Entry → Type 0) (empty : Q []) (performs : (instances limit
     flush_holds true which = flushes (rib past) which holds
     flush_holds false which = holds
 
-    step_holds : (command : Command) (r : Reply) → r ≡ reply_to config past command → is_formed command ≡ true → Q (rib (record { command = command; reply = r } ∷ past))
+    step_holds : (command : Command) (r : Reply) → r ≡ reply_to config past command → is_well_formed command ≡ true → Q (rib (record { command = command; reply = r } ∷ past))
     unfolding rib
     step_holds (Operate session operation now) r told formed = operate_holds session operation now r told formed
     step_holds (Leave session) r told formed = leave_holds (is_left r && purges past session)

@@ -20,9 +20,9 @@ use Rattle.table_model.specs.declared.reply.Reply.TheVariants as reply
 use Rattle.table_model.specs.Election.{is_primary, highest}
 use Rattle.table_model.specs.Event.{Event, is_flushed}
 use Rattle.table_model.specs.Laws.{event, is_closed, MayChange, RibIsClosed, RibIsInOrder, ChainsAreShort, RibChangesByThese}
-use Rattle.table_model.specs.Legal.{IsLawful, is_formed_ask}
+use Rattle.table_model.specs.Legal.{IsLawful, is_well_formed_ask}
 use Rattle.table_model.specs.Reply.{reply_to, is_halted, may_flush}
-use Rattle.table_model.specs.Rib.{rib, purges, verdict, is_id}
+use Rattle.table_model.specs.Rib.{rib, purges, verdict, is_same_id}
 use Rattle.table_model.specs.Sessions.{params_of, deletes}
 use Rattle.table_model.specs.Table.{in_order, is_shallow, performed, refusal, remains, kept}
 use Rattle.table_model.proofs.Closed.{closed_put, closed_take_out, all_put, all_taken}
@@ -33,7 +33,7 @@ use Rattle.table_laws.proofs.Chains.{shallow_put, shallow_take_out, shallow_kept
 use Rattle.table_laws.proofs.Refused.{put_resolves, put_shallow, remove_unused}
 use Rattle.table_laws.proofs.RibHolds.{rib_holds, done_verdict}
 
-closed_performed : (instances limit : ℕ) (table : List Entry) (ask : Ask) → refusal instances limit table ask ≡ None → is_formed_ask ask ≡ true → is_closed table ≡ true → is_closed (performed ask table) ≡ true
+closed_performed : (instances limit : ℕ) (table : List Entry) (ask : Ask) → refusal instances limit table ask ≡ None → is_well_formed_ask ask ≡ true → is_closed table ≡ true → is_closed (performed ask table) ≡ true
 closed_performed instances limit table (Put entry replace) h formed closed = closed_put entry table closed (put_resolves instances limit table entry replace h)
 closed_performed instances limit table (Remove key) h formed closed = closed_take_out key table closed (remove_unused instances limit table key h)
 closed_performed instances limit table (Bad reason) h formed closed = closed
@@ -41,7 +41,7 @@ closed_performed instances limit table (Bad reason) h formed closed = closed
 pub closed : (config : Config) → RibIsClosed config
 closed config = rib_holds (λ table. is_closed table ≡ true) refl closed_performed kept_closed config
 
-in_order_performed : (instances limit : ℕ) (table : List Entry) (ask : Ask) → refusal instances limit table ask ≡ None → is_formed_ask ask ≡ true → in_order table ≡ true → in_order (performed ask table) ≡ true
+in_order_performed : (instances limit : ℕ) (table : List Entry) (ask : Ask) → refusal instances limit table ask ≡ None → is_well_formed_ask ask ≡ true → in_order table ≡ true → in_order (performed ask table) ≡ true
 in_order_performed instances limit table (Put entry replace) h formed sorted = in_order_put entry table sorted
 in_order_performed instances limit table (Remove key) h formed sorted = in_order_take_out key table sorted
 in_order_performed instances limit table (Bad reason) h formed sorted = sorted
@@ -53,7 +53,7 @@ in_order_kept table which sorted = in_order_filter _ table sorted
 pub sorted : (config : Config) → RibIsInOrder config
 sorted config = rib_holds (λ table. in_order table ≡ true) in_order_empty in_order_performed in_order_kept config
 
-shallow_performed : (instances limit : ℕ) (table : List Entry) (ask : Ask) → refusal instances limit table ask ≡ None → is_formed_ask ask ≡ true → is_shallow table ≡ true → is_shallow (performed ask table) ≡ true
+shallow_performed : (instances limit : ℕ) (table : List Entry) (ask : Ask) → refusal instances limit table ask ≡ None → is_well_formed_ask ask ≡ true → is_shallow table ≡ true → is_shallow (performed ask table) ≡ true
 shallow_performed instances limit table (Put entry replace) h formed short = shallow_put entry table (put_shallow instances limit table entry replace h) short
 shallow_performed instances limit table (Remove key) h formed short = shallow_take_out key table short
 shallow_performed instances limit table (Bad reason) h formed short = short
@@ -69,7 +69,7 @@ shallow config = rib_holds (λ table. is_shallow table ≡ true) shallow_empty s
 abbrev pub is_formed_entry : Entry → Bool
 is_formed_entry e = fits e.key.name e.payload
 
-formed_performed : (instances limit : ℕ) (table : List Entry) (ask : Ask) → refusal instances limit table ask ≡ None → is_formed_ask ask ≡ true → list_all is_formed_entry table ≡ true → list_all is_formed_entry (performed ask table) ≡ true
+formed_performed : (instances limit : ℕ) (table : List Entry) (ask : Ask) → refusal instances limit table ask ≡ None → is_well_formed_ask ask ≡ true → list_all is_formed_entry table ≡ true → list_all is_formed_entry (performed ask table) ≡ true
 formed_performed instances limit table (Put entry replace) h formed all = all_put is_formed_entry entry table all formed
 formed_performed instances limit table (Remove key) h formed all = all_taken is_formed_entry key table all
 formed_performed instances limit table (Bad reason) h formed all = all
@@ -88,14 +88,14 @@ two_tests false b p q o h = cc
 two_tests true false p q o h = cc
 two_tests true true p q o h = (refl, refl)
 
-id_is : (o : Option ℕ) (id : ℕ) → is_id o id ≡ true → o ≡ Some id
+id_is : (o : Option ℕ) (id : ℕ) → is_same_id o id ≡ true → o ≡ Some id
 id_is None id h = cc
 id_is (Some given) id h = let same : given ≡ id = grind (arith, nat_tests) in ap (λ n. Some n) same
 
 done_primary : (config : Config) (past : List Event) (session : ℕ) (operation : Operation) → verdict config past session operation ≡ None → (is_primary past session ≡ true) × (operation.election ≡ Some (highest past))
 unfolding verdict
 done_primary config past session operation h =
-    let two = two_tests (is_primary past session) (is_id operation.election (highest past)) NotPrimary ElectionIdDiffers (refusal config.instances config.limit (rib past) operation.ask) h in
+    let two = two_tests (is_primary past session) (is_same_id operation.election (highest past)) NotPrimary ElectionIdDiffers (refusal config.instances config.limit (rib past) operation.ask) h in
     (two.0, id_is operation.election (highest past) two.1)
 
 module _ (config : Config) (past : List Event) where

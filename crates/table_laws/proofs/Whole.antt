@@ -20,7 +20,7 @@ use Rattle.table_model.specs.declared.command.Which.{Which}
 use Rattle.table_model.specs.declared.reply.Reply.{Reply}
 use Rattle.table_model.specs.declared.reply.Reply.TheVariants as reply
 use Rattle.table_model.specs.Event.{Event, is_done, is_left, is_flushed}
-use Rattle.table_model.specs.Jobs.{Task, tasks, tasks_by, slots, outcome_of, operate_tasks, purge_rank, purge_order, purge_tasks, removed, effect, fib, is_programmed}
+use Rattle.table_model.specs.Jobs.{Task, tasks, tasks_by, tracked_tasks, outcome_of, operate_tasks, purge_rank, purge_order, purge_tasks, removed, effect, fib, is_programmed}
 use Rattle.table_model.specs.Laws.{event}
 use Rattle.table_model.specs.Rib.{rib, purges}
 use Rattle.table_model.specs.Table.{lookup, has, take_out, backup_of, chain, depth, stays, kept}
@@ -28,7 +28,7 @@ use Rattle.table_model.proofs.LookupLemmas.{find_filter_in, find_filter_out}
 use Rattle.table_model.proofs.Tests.{and_left, and_right, filter_all, filter_none}
 use Rattle.table_laws.proofs.Ascending.{number}
 use Rattle.table_laws.proofs.Reports.{done_fold, fib_is}
-use Rattle.table_laws.proofs.Turns.{slot_at}
+use Rattle.table_laws.proofs.Updates.{tracked_at}
 
 abbrev pub works : List Entry → List Task → List Entry
 works table [] = table
@@ -303,10 +303,10 @@ all_done past table (t ∷ ts) h =
     ap (λ b. done_fold (outcome_of past) (cond b (effect table t.job.work) table) ts) (and_left (is_programmed (outcome_of past (number t))) (list_all (λ x. is_programmed (outcome_of past (number x))) ts) h)
     ∙ all_done past (effect table t.job.work) ts (and_right (is_programmed (outcome_of past (number t))) (list_all (λ x. is_programmed (outcome_of past (number x))) ts) h)
 
-all_slots : (past : List Event) (ts : List Task) → list_all (λ slot. is_programmed slot.outcome) (map (slot_at past) ts) ≡ list_all (λ t. is_programmed (outcome_of past (number t))) ts
-all_slots past [] = refl
-all_slots past (t ∷ ts) = ap (λ b. is_programmed (outcome_of past (number t)) && b) (all_slots past ts)
+all_tracked : (past : List Event) (ts : List Task) → list_all (λ tracked. is_programmed tracked.outcome) (map (tracked_at past) ts) ≡ list_all (λ t. is_programmed (outcome_of past (number t))) ts
+all_tracked past [] = refl
+all_tracked past (t ∷ ts) = ap (λ b. is_programmed (outcome_of past (number t)) && b) (all_tracked past ts)
 
-pub same_tables : (past : List Event) → list_all (λ slot. is_programmed slot.outcome) (slots past) ≡ true → fib past ≡ rib past
-unfolding slots
-same_tables past h = fib_is past ∙ all_done past [] (tasks past) (sym (all_slots past (tasks past)) ∙ h) ∙ works_are past
+pub same_tables : (past : List Event) → list_all (λ tracked. is_programmed tracked.outcome) (tracked_tasks past) ≡ true → fib past ≡ rib past
+unfolding tracked_tasks
+same_tables past h = fib_is past ∙ all_done past [] (tasks past) (sym (all_tracked past (tasks past)) ∙ h) ∙ works_are past

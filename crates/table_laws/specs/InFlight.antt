@@ -2,7 +2,7 @@
 use Rattle.std.specs.Prelude.{◌≡◌, Bool, true, ◌&&◌, List, map, filter, fold}
 use Rattle.table_model.specs.declared.command.Config.{Config}
 use Rattle.table_model.specs.Event.{Event}
-use Rattle.table_model.specs.Jobs.{Task, slots, is_out, effect, fib}
+use Rattle.table_model.specs.Jobs.{Task, tracked_tasks, is_out, effect, fib}
 use Rattle.table_model.specs.Laws.{is_closed}
 use Rattle.table_model.specs.Legal.{IsLawful}
 
@@ -10,4 +10,4 @@ use Rattle.table_model.specs.Legal.{IsLawful}
 abbrev pub InFlightIsClosed : Config → Type 0
 InFlightIsClosed config =
     (past : List Event) → IsLawful config past → (done : Task → Bool)
-    → is_closed (fold effect (fib past) (map (λ slot. slot.task.job.work) (filter (λ slot. is_out slot.outcome && done slot.task) (slots past)))) ≡ true
+    → is_closed (fold effect (fib past) (map (λ tracked. tracked.task.job.work) (filter (λ tracked. is_out tracked.outcome && done tracked.task) (tracked_tasks past)))) ≡ true

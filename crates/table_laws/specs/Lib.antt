@@ -1,6 +1,6 @@
 pub mod Samples
 pub mod Examples
 pub mod Boards
-pub mod Handed
+pub mod CollectedResults
 pub mod InFlight
 pub mod Succeeds

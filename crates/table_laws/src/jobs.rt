@@ -4,15 +4,15 @@ ghost use Rattle.aft_entries.specs.declared.entry.Entry.{Entry};
 ghost use Rattle.aft_entries.specs.Order.{key_eq};
 ghost use Rattle.table_model.specs.declared.job.Work.{Work};
 ghost use Rattle.table_model.specs.Event.{Event};
-ghost use Rattle.table_model.specs.Jobs.{effect, work_key, slots, fib, is_programmed};
+ghost use Rattle.table_model.specs.Jobs.{effect, work_key, tracked_tasks, fib, is_programmed};
 ghost use Rattle.table_model.specs.Rib.{rib};
 ghost use Rattle.table_model.specs.declared.command.Config.{Config};
-ghost use Rattle.table_model.specs.Laws.{AllAnswered, AnsweredOnce, JobsAscend, CompletesOnce, ConflictsInOrder, OutAreApart, OutstandingIsOwed, ProgrammedWasReported, ReportsGiveFib, ProgrammedIsThere, FibIsClosed, FaultlessIsSame};
+ghost use Rattle.table_model.specs.Laws.{AllAnswered, AnsweredOnce, JobsAscend, CompletesOnce, ConflictsInOrder, OutAreApart, OutstandingIsOwed, ProgrammedWasReported, ReportsGiveFib, ProgrammedIsThere, FibIsClosed, FibIsRibWithoutFaults};
 ghost use Rattle.table_model.specs.Table.{in_order};
-ghost use Rattle.table_laws.specs.Boards.{BoardsTell};
-ghost use Rattle.table_laws.specs.Handed.{HandedWasReported};
+ghost use Rattle.table_laws.specs.Boards.{BoardAnswersAsHistory};
+ghost use Rattle.table_laws.specs.CollectedResults.{CollectedWasReported};
 ghost use Rattle.table_laws.specs.InFlight.{InFlightIsClosed};
-ghost use Rattle.table_laws.specs.Succeeds.{FaultlessSucceeds, IdleIsDone};
+ghost use Rattle.table_laws.specs.Succeeds.{SucceedsWithoutFaults, IdleIsDone};
 
 /// Jobs stand in the order of their numbers, and no number names two.
 pub fn jobs_ascend()
@@ -41,8 +41,8 @@ pub fn programmed_was_reported()
 
 /// Each result without a failure that a Collect handed out: a worker reported, at its moment, that the device programmed
 /// a job of the session with its id, and right after that report the forwarding table had its entry, or no longer its key.
-pub fn handed_was_reported()
-    ensures { (config : Config) → HandedWasReported config }
+pub fn collected_was_reported()
+    ensures { (config : Config) → CollectedWasReported config }
 {}
 
 /// What a session's Collects answer are the first of its results in the order of completion, each once.
@@ -84,31 +84,31 @@ pub fn in_flight_is_closed()
 
 /// Where each job is programmed, the forwarding table is the table that the commands leave.
 pub fn fib_is_rib_where_programmed()
-    ensures { (past : List Event) → list_all (λ slot. is_programmed slot.outcome) (slots past) ≡ true → fib past ≡ rib past }
+    ensures { (past : List Event) → list_all (λ tracked. is_programmed tracked.outcome) (tracked_tasks past) ≡ true → fib past ≡ rib past }
 {}
 
 /// Where no device fails, no job is skipped, and where no job is undone the forwarding table is the table that the
 /// commands leave.
-pub fn faultless_is_same()
-    ensures { (config : Config) → FaultlessIsSame config }
+pub fn fib_is_rib_without_faults()
+    ensures { (config : Config) → FibIsRibWithoutFaults config }
 {}
 
 /// The number of workers, the undone jobs and the results that are due tell the next job of a worker, whether it has
 /// one left, what a live session collects next, what is outstanding then, and whether a job is out.
-pub fn boards_tell()
-    ensures { (config : Config) → BoardsTell config }
+pub fn board_answers_as_history()
+    ensures { (config : Config) → BoardAnswersAsHistory config }
 {}
 
 /// A job that is done late does what it would have done in its place, where no later one has its key.
-pub fn late_work()
+pub fn late_work_has_same_effect()
     ensures { (table : List Entry) (work : Work) (later : List Work) → in_order table ≡ true
         → list_all (λ other. not (key_eq (work_key work) (work_key other))) later ≡ true
         → fold effect (effect table work) later ≡ effect (fold effect table later) work }
 {}
 
 /// Where no device fails, no result has a failure.
-pub fn faultless_succeeds()
-    ensures { (config : Config) → FaultlessSucceeds config }
+pub fn succeeds_without_faults()
+    ensures { (config : Config) → SucceedsWithoutFaults config }
 {}
 
 /// Where one worker serves all keys and has no next job while none is out, no job is undone.

@@ -17,9 +17,9 @@ use Rattle.table_lock.specs.declared.view.Phase.{Phase}
 use Rattle.table_lock.specs.declared.view.Phase.TheVariants.{Idle, Waits, Acts}
 use Rattle.table_lock.specs.declared.view.Item.{Item}
 use Rattle.table_lock.specs.declared.view.View.{View}
-use Rattle.table_lock.specs.declared.view.Last.{Last}
-use Rattle.table_lock.specs.declared.view.Desk.{Desk}
-use Rattle.table_lock.specs.Lock.{entry, longer, name_by, held_by, ticket_in, weight, name_of, held_of, outs, NoneActs, InPhase, SeatOk, PassOk, EndedOk, Kept, first, spent, forked, newcomer, note_of, learned, merged, handed_on, glanced, drew, handed, looked, settled}
+use Rattle.table_lock.specs.declared.view.LastCall.{LastCall}
+use Rattle.table_lock.specs.declared.view.Slot.{Slot}
+use Rattle.table_lock.specs.Lock.{entry, longer, name_by, held_by, ticket_in, weight, name_of, held_of, outs, NoneActs, InPhase, SeatOk, PassOk, EndedOk, LockInvariant, first, spent, forked, new_pass, note_of, learned, merged, handed_on, glanced, drew, handed, looked, settled}
 use Rattle.table_lock.proofs.Lists.{at_below, one_value, each, each_more, prefix_refl, prefix_more, prefix_none, prefix_trans, prefix_whole, prefix_shorter, calls_none, calls_between, add_call, add_own, longer_cases, prefix_between, whole_set, whole_more, whole_join, distinct_set, distinct_more, distinct_same, distinct_none, has_same, has_else, has_more, has_last, apart_more, outs_set, outs_same, outs_more, weight_one}
 
 module _ {M C R G : Type 0} (setup : M → G) (stands : M → List (Entry C R) → Type 0) (lawful : G → List (Entry C R) → Type 0) (key : G) where
@@ -27,13 +27,13 @@ module _ {M C R G : Type 0} (setup : M → G) (stands : M → List (Entry C R) �
   V = View C R G
 
   abbrev S : Type 0
-  S = Option (Desk M C R)
+  S = Option (Slot M C R)
 
   abbrev St : Type 0
   St = State S V
 
   abbrev Rule : St → Type 0
-  Rule = Kept setup stands lawful key
+  Rule = LockInvariant setup stands lawful key
 
   abbrev Sees : List (Entry C R) → V → Type 0
   Sees = SeatOk setup stands lawful key
@@ -329,7 +329,7 @@ module _ {M C R G : Type 0} (setup : M → G) (stands : M → List (Entry C R) �
   one_longer : (log : List (Entry C R)) (e : Entry C R) → length (log ++ e ∷ []) ≡ length log + 1
   one_longer log e = length-append log (e ∷ [])
 
-  hand_keeps : ((x : M) (h : List (Entry C R)) → stands x h → lawful (setup x) h) → (s : St) (r : Rule s) (id t : ℕ) (v : V) (d : Desk M C R) (c : C) (a : R) → get_elem? s.views id ≡ some v → v.kind ≡ Pass → v.phase ≡ Acts t → t < 2 ^ 62
+  hand_keeps : ((x : M) (h : List (Entry C R)) → stands x h → lawful (setup x) h) → (s : St) (r : Rule s) (id t : ℕ) (v : V) (d : Slot M C R) (c : C) (a : R) → get_elem? s.views id ≡ some v → v.kind ≡ Pass → v.phase ≡ Acts t → t < 2 ^ 62
       → stands d.machine (v.seen ++ entry v.number c a ∷ []) → v.setup ≡ Some (setup d.machine)
       → Rule record { words = set s.words 1 ((get_or s.words 1 0 + 1) % 2 ^ 64); homes = set s.homes 0 (some (Some d)); views = set s.views id (handed_on v c a) }
   hand_keeps law s r id t v d c a at pass acts few stand set_up =
@@ -402,23 +402,23 @@ module _ {M C R G : Type 0} (setup : M → G) (stands : M → List (Entry C R) �
         home = λ idle. (d, (let one = r.one in let here : 0 < length s.homes = omega arith in set_here s.homes 0 (some (Some d)) here), stand', key_is);
       }
 
-  abbrev desk_or : Desk M C R → S → Desk M C R
-  desk_or d (Some x) = x
-  desk_or d None = d
+  abbrev slot_content_or : Slot M C R → S → Slot M C R
+  slot_content_or d (Some x) = x
+  slot_content_or d None = d
 
-  abbrev held_or : Desk M C R → List (ℕ × S) → Desk M C R
+  abbrev held_or : Slot M C R → List (ℕ × S) → Slot M C R
   held_or d [] = d
-  held_or d (x ∷ xs) = desk_or d x.1
+  held_or d (x ∷ xs) = slot_content_or d x.1
 
-  abbrev last_or : Last C R → Option (Last C R) → Last C R
+  abbrev last_or : LastCall C R → Option (LastCall C R) → LastCall C R
   last_or l (Some x) = x
   last_or l None = l
 
   -- what is held is one desk
-  pub same_desk : (cs : List (ℕ × S)) (d d' : Desk M C R) → cs ≡ (0, Some d) ∷ [] → cs ≡ (0, Some d') ∷ [] → d ≡ d'
-  same_desk cs d d' p q = ap (held_or d) (sym p ∙ q)
+  pub same_slot : (cs : List (ℕ × S)) (d d' : Slot M C R) → cs ≡ (0, Some d) ∷ [] → cs ≡ (0, Some d') ∷ [] → d ≡ d'
+  same_slot cs d d' p q = ap (held_or d) (sym p ∙ q)
 
-  pub hands : ((x : M) (h : List (Entry C R)) → stands x h → lawful (setup x) h) → (slots id t : ℕ) (me : Me S V) (d : Desk M C R) (l : Last C R) (v : V) (c : C) (a : R) → me.0 ≡ v → v.kind ≡ Pass → v.phase ≡ Acts t → t < 2 ^ 62
+  pub hands : ((x : M) (h : List (Entry C R)) → stands x h → lawful (setup x) h) → (slots id t : ℕ) (me : Me S V) (d : Slot M C R) (l : LastCall C R) (v : V) (c : C) (a : R) → me.0 ≡ v → v.kind ≡ Pass → v.phase ≡ Acts t → t < 2 ^ 62
       → me.1 ≡ (0, Some d) ∷ [] → d.last ≡ Some l → l.command.value ≡ c → l.reply.value ≡ a → stands d.machine (v.seen ++ entry v.number c a ∷ []) → v.setup ≡ Some (setup d.machine)
       → Allows Rule slots id me 1 (λ n. (n + 1) % 2 ^ 64) (handed (step slots 1 1 0 none) me)
   hands law slots id t me d l v c a v_is pass acts few has last_is c_is a_is stand set_up s r deep at small =
@@ -430,20 +430,20 @@ module _ {M C R G : Type 0} (setup : M → G) (stands : M → List (Entry C R) �
         tt,
         subst (λ (cs : List (ℕ × S)). Rule (stepped s 1 ((get_or s.words 1 0 + 1) % 2 ^ 64) id cs (handed_on v' l.command.value l.reply.value) gives)) (sym has)
             (hand_keeps law s r id t v' d l.command.value l.reply.value at (ap (λ (x : V). x.kind) v_is ∙ pass) (ap (λ (x : V). x.phase) v_is ∙ acts) few stand' (ap (λ (x : V). x.setup) v_is ∙ set_up)),
-        λ d' l' has' last'. let d_is : d ≡ d' = same_desk me.1 d d' has has' in let l_is : l ≡ l' = ap (last_or l) (sym last_is ∙ (ap (λ (x : Desk M C R). x.last) d_is ∙ last')) in
+        λ d' l' has' last'. let d_is : d ≡ d' = same_slot me.1 d d' has has' in let l_is : l ≡ l' = ap (last_or l) (sym last_is ∙ (ap (λ (x : Slot M C R). x.last) d_is ∙ last')) in
             (λ i. (handed_on v' (l_is i).command.value (l_is i).reply.value, ap Rattle.atomic_table.specs.Table.rest has i)),
       )
 
   -- what the caller of a machine is told
-  pub handed_is : (me me' : Me S V) (d : Desk M C R) (l : Last C R) (v : V) (c : C) (a : R) → me.0 ≡ v → me.1 ≡ (0, Some d) ∷ [] → d.last ≡ Some l → l.command.value ≡ c → l.reply.value ≡ a → (st : Rattle.atomic_table.specs.Table.Step S) (n : ℕ)
+  pub handed_is : (me me' : Me S V) (d : Slot M C R) (l : LastCall C R) (v : V) (c : C) (a : R) → me.0 ≡ v → me.1 ≡ (0, Some d) ∷ [] → d.last ≡ Some l → l.command.value ≡ c → l.reply.value ≡ a → (st : Rattle.atomic_table.specs.Table.Step S) (n : ℕ)
       → handed st me n me' → me' ≡ (handed_on v c a, [])
   handed_is me me' d l v c a v_is has last_is c_is a_is st n told = told d l has last_is ∙ (λ i. (handed_on (v_is i) (c_is i) (a_is i), []))
 
   -- the root with a pass more
-  fork_keeps : (s : St) (r : Rule s) (id : ℕ) (v : V) → get_elem? s.views id ≡ some v → v.kind ≡ Pass → v.phase ≡ Idle → v.number ≡ 0 → Rule record { words = s.words; homes = s.homes; views = set s.views id (forked v) ++ newcomer v ∷ [] }
+  fork_keeps : (s : St) (r : Rule s) (id : ℕ) (v : V) → get_elem? s.views id ≡ some v → v.kind ≡ Pass → v.phase ≡ Idle → v.number ≡ 0 → Rule record { words = s.words; homes = s.homes; views = set s.views id (forked v) ++ new_pass v ∷ [] }
   fork_keeps s r id v at pass rests root_is =
       let w : V = forked v in
-      let u : V = newcomer v in
+      let u : V = new_pass v in
       let vs : List V = set s.views id w in
       let k = seat_of s r id v at pass in let p = r.passes id v at pass in
       let own = p.root root_is in let made_one : 0 < r.made = (let c = r.count in omega arith) in
@@ -510,7 +510,7 @@ module _ {M C R G : Type 0} (setup : M → G) (stands : M → List (Entry C R) �
         home = λ idle. r.home (quiet_acts s.views id v w at (λ t kind is. (kind, is)) (λ j t x there. idle j t x (at_longer vs (u ∷ []) j x there)));
       }
 
-  pub forks : (id : ℕ) (v : V) → v.kind ≡ Pass → v.phase ≡ Idle → v.number ≡ 0 → Splits Rule id v (forked v) (newcomer v)
+  pub forks : (id : ℕ) (v : V) → v.kind ≡ Pass → v.phase ≡ Idle → v.number ≡ 0 → Splits Rule id v (forked v) (new_pass v)
   forks id v pass rests root_is s r at = fork_keeps s r id v at pass rests root_is
 
   -- a note more

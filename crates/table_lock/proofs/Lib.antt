@@ -1,6 +1,6 @@
 pub mod Lists
 pub mod Keeps
-pub mod Told
+pub mod SeatFacts
 pub mod Acting
-pub mod Crosses
+pub mod SendSync
 pub mod Extends

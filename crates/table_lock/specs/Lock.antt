@@ -12,8 +12,8 @@ use Rattle.table_lock.specs.declared.view.Phase.{Phase}
 use Rattle.table_lock.specs.declared.view.Phase.TheVariants.{Idle, Waits, Acts}
 use Rattle.table_lock.specs.declared.view.Item.{Item}
 use Rattle.table_lock.specs.declared.view.View.{View}
-use Rattle.table_lock.specs.declared.view.Last.{Last}
-use Rattle.table_lock.specs.declared.view.Desk.{Desk}
+use Rattle.table_lock.specs.declared.view.LastCall.{LastCall}
+use Rattle.table_lock.specs.declared.view.Slot.{Slot}
 
 module _ {C R : Type 0} where
   -- the entries of one number
@@ -119,7 +119,7 @@ module _ {M C R G : Type 0} (setup : M → G) (stands : M → List (Entry C R) �
 
   -- The rule between any two steps. The words are the next ticket and the one that is served; one slot holds the machine.
   -- log is the history, made counts the passes, and ended has those that were joined.
-  pub record Kept (s : State (Option (Desk M C R)) (View C R G)) : Type 0 where
+  pub record LockInvariant (s : State (Option (Slot M C R)) (View C R G)) : Type 0 where
     pub log : List (Entry C R)
     pub made : ℕ
     pub ended : List (Item C R)
@@ -147,7 +147,7 @@ module _ {M C R G : Type 0} (setup : M → G) (stands : M → List (Entry C R) �
     -- some pass has seen the whole history
     pub whole : Whole s.views log
     -- where no pass has found its turn, the machine is at home and stands for the history
-    pub home : NoneActs s.views → (d : Desk M C R) × (get_elem? s.homes 0 ≡ some (some (Some d))) × stands d.machine log × (setup d.machine ≡ key)
+    pub home : NoneActs s.views → (d : Slot M C R) × (get_elem? s.homes 0 ≡ some (some (Some d))) × stands d.machine log × (setup d.machine ≡ key)
 
 module _ {C R G : Type 0} where
   -- the first view of the root
@@ -162,8 +162,8 @@ module _ {C R G : Type 0} where
   abbrev pub forked : View C R G → View C R G
   forked v = record v { made = v.made + 1; out = v.out + 1 }
 
-  abbrev pub newcomer : View C R G → View C R G
-  newcomer v = record v { kind = Pass; number = v.made; phase = Idle; mine = []; ticket = 0; made = 0; out = 0; ended = [] }
+  abbrev pub new_pass : View C R G → View C R G
+  new_pass v = record v { kind = Pass; number = v.made; phase = Idle; mine = []; ticket = 0; made = 0; out = 0; ended = [] }
 
   abbrev pub note_of : View C R G → View C R G
   note_of v = record v { kind = Note; number = 0; phase = Idle; mine = []; ticket = 0; made = 0; out = 0; ended = [] }
@@ -181,18 +181,18 @@ module _ {C R G : Type 0} where
   handed_on v c r = record v { phase = Idle; seen = v.seen ++ entry v.number c r ∷ []; mine = v.mine ++ entry v.number c r ∷ [] }
 
 module _ {M C R G : Type 0} where
-  abbrev pub glanced : Step (Option (Desk M C R)) → Me (Option (Desk M C R)) (View C R G) → ℕ → Me (Option (Desk M C R)) (View C R G) → Type 0
+  abbrev pub glanced : Step (Option (Slot M C R)) → Me (Option (Slot M C R)) (View C R G) → ℕ → Me (Option (Slot M C R)) (View C R G) → Type 0
   glanced st m n m' = m' ≡ (record m.0 { ticket = n }, m.1)
 
-  abbrev pub drew : Step (Option (Desk M C R)) → Me (Option (Desk M C R)) (View C R G) → ℕ → Me (Option (Desk M C R)) (View C R G) → Type 0
+  abbrev pub drew : Step (Option (Slot M C R)) → Me (Option (Slot M C R)) (View C R G) → ℕ → Me (Option (Slot M C R)) (View C R G) → Type 0
   drew st m n m' = (n ≡ st.first → m' ≡ (record m.0 { ticket = n; phase = Waits n }, m.1)) × (n ≢ st.first → m' ≡ (record m.0 { ticket = n }, m.1))
 
-  abbrev pub handed : Step (Option (Desk M C R)) → Me (Option (Desk M C R)) (View C R G) → ℕ → Me (Option (Desk M C R)) (View C R G) → Type 0
-  handed st m n m' = (d : Desk M C R) (l : Last C R) → m.1 ≡ (0, Some d) ∷ [] → d.last ≡ Some l → m' ≡ (handed_on m.0 l.command.value l.reply.value, [])
+  abbrev pub handed : Step (Option (Slot M C R)) → Me (Option (Slot M C R)) (View C R G) → ℕ → Me (Option (Slot M C R)) (View C R G) → Type 0
+  handed st m n m' = (d : Slot M C R) (l : LastCall C R) → m.1 ≡ (0, Some d) ∷ [] → d.last ≡ Some l → m' ≡ (handed_on m.0 l.command.value l.reply.value, [])
 
 module _ {M C R G : Type 0} (setup : M → G) (stands : M → List (Entry C R) → Type 0) (lawful : G → List (Entry C R) → Type 0) where
   -- what a seat is told that finds its turn: the whole history, and the machine that stands for it
-  pub record Turn (v : View C R G) (n : ℕ) (log : List (Entry C R)) (d : Desk M C R) : Type 0 where
+  pub record Turn (v : View C R G) (n : ℕ) (log : List (Entry C R)) (d : Slot M C R) : Type 0 where
     pub longer_by : IsPrefix v.seen log
     pub length_is : length log ≡ n
     pub own : calls_of v.number log ≡ v.mine
@@ -200,9 +200,9 @@ module _ {M C R G : Type 0} (setup : M → G) (stands : M → List (Entry C R) �
     pub set_up : v.setup ≡ Some (setup d.machine)
     pub legal : lawful (setup d.machine) log
 
-  abbrev pub looked : Step (Option (Desk M C R)) → Me (Option (Desk M C R)) (View C R G) → ℕ → Me (Option (Desk M C R)) (View C R G) → Type 0
+  abbrev pub looked : Step (Option (Slot M C R)) → Me (Option (Slot M C R)) (View C R G) → ℕ → Me (Option (Slot M C R)) (View C R G) → Type 0
   looked st m n m' = (t : ℕ) → m.0.phase ≡ Waits t
-      → (n ≡ t → (log : List (Entry C R)) × (d : Desk M C R) × (m' ≡ (record m.0 { phase = Acts t; seen = log }, (0, Some d) ∷ m.1)) × Turn m.0 n log d)
+      → (n ≡ t → (log : List (Entry C R)) × (d : Slot M C R) × (m' ≡ (record m.0 { phase = Acts t; seen = log }, (0, Some d) ∷ m.1)) × Turn m.0 n log d)
       × (n ≢ t → m' ≡ m)
 
 module _ {C R G : Type 0} (lawful : G → List (Entry C R) → Type 0) where
@@ -215,5 +215,5 @@ module _ {C R G : Type 0} (lawful : G → List (Entry C R) → Type 0) where
 
 module _ {M C R G : Type 0} (lawful : G → List (Entry C R) → Type 0) where
   -- The ninth kind of step, a load that changes nothing. It tells a seat what the rule says of its view: after a split that the new pass knows a lawful history, and after a join that both old histories begin the longer one
-  abbrev pub settled : Step (Option (Desk M C R)) → Me (Option (Desk M C R)) (View C R G) → ℕ → Me (Option (Desk M C R)) (View C R G) → Type 0
+  abbrev pub settled : Step (Option (Slot M C R)) → Me (Option (Slot M C R)) (View C R G) → ℕ → Me (Option (Slot M C R)) (View C R G) → Type 0
   settled st m n m' = (m' ≡ m) × Sound lawful m.0

@@ -2,12 +2,12 @@
 //! and each pass knows a beginning of that history with all its own calls in it.
 #![tactic(auto)]
 
-mod bell;
-mod crossing;
+mod doorbell;
 mod lock;
 mod machine;
-mod plays;
+mod send_sync;
 mod steps;
+mod transitions;
 mod view;
 
 pub use lock::{Note, Pass, Spent, TableLock};

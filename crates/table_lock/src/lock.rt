@@ -2,11 +2,11 @@
 ghost use Rattle.std.specs.Prelude.{◌≡◌, ℕ, ◌+◌, ◌-◌, ◌^◌, ◌<◌, ◌≤◌, [], ◌∷◌, ◌++◌, IfOk, IfErr};
 ghost use Rattle.table_lock.specs.Passes.{IsPassOf, IsNoteOf, IsCalled, IsLearned, IsSound, IsClosed, root_view, child, item};
 
-use crate::bell::Bell;
+use crate::doorbell::Doorbell;
 use crate::machine::Machine;
-use crate::plays::{SeatOf, TableOf};
 use crate::steps;
-use crate::view::Desk;
+use crate::transitions::{SeatOf, TableOf};
+use crate::view::Slot;
 use atomic_table::Table;
 use std::alloc::{AllocError, Global};
 use std::marker::Model;
@@ -22,7 +22,7 @@ pub struct Spent;
 #[derive(Drop)]
 pub struct TableLock<M: Machine> {
     table: TableOf<M>,
-    bell: Bell,
+    doorbell: Doorbell,
 }
 
 impl<M: Machine> Model for TableLock<M> {
@@ -50,9 +50,9 @@ impl<M: Machine> Model for Pass<M> {
 
     ghost Value = { PassView M.Command M.Reply M.Setup };
 
-    ghost use Rattle.table_lock.specs.Seats.{IsIdle, knowledge};
+    ghost use Rattle.table_lock.specs.Seats.{IsIdle, pass_view};
 
-    ghost view = { λ p. knowledge p.seat };
+    ghost view = { λ p. pass_view p.seat };
 
     ghost invariant = { λ p. IsIdle p.seat };
 }
@@ -68,9 +68,9 @@ impl<M: Machine> Model for Note<M> {
 
     ghost Value = { NoteView M.Command M.Reply M.Setup };
 
-    ghost use Rattle.table_lock.specs.Seats.{IsNote, telling};
+    ghost use Rattle.table_lock.specs.Seats.{IsNote, note_view};
 
-    ghost view = { λ p. telling p.seat };
+    ghost view = { λ p. note_view p.seat };
 
     ghost invariant = { λ p. IsNote p.seat };
 }
@@ -84,7 +84,7 @@ impl<M: Machine> TableLock<M> {
     {
         let about = Snapshot::of(&machine);
         let mut slots = Vec::with_capacity(alloc, 1)?;
-        slots.push_reserved(Some(Desk {
+        slots.push_reserved(Some(Slot {
             machine,
             last: None,
         }));
@@ -92,7 +92,7 @@ impl<M: Machine> TableLock<M> {
             Ok((table, seat)) => Ok((
                 TableLock {
                     table,
-                    bell: Bell::new(),
+                    doorbell: Doorbell::new(),
                 },
                 Pass { seat },
             )),
@@ -163,17 +163,17 @@ impl<M: Machine> TableLock<M> {
 
     /// How often the bell was rung.
     pub fn rung(&self) -> u64 {
-        self.bell.rung()
+        self.doorbell.rung()
     }
 
     /// Ends the rests of all threads, which rest for want of what the caller has just called for.
     pub fn ring(&self) {
-        self.bell.ring();
+        self.doorbell.ring();
     }
 
     /// Sleeps until the bell is rung or the time is up, if it was not rung since it was heard. It may also return for no reason.
     pub fn rest<R: Wait>(&self, rt: &R, heard: u64, at_most: Duration) {
-        self.bell.rest(rt, heard, at_most);
+        self.doorbell.rest(rt, heard, at_most);
     }
 
     /// Takes the machine out, once each pass was joined. It stands for the closed history, which is all that the root has seen.
@@ -182,13 +182,15 @@ impl<M: Machine> TableLock<M> {
         ensures machine { M.stands result pass.seen × (M.setup result ≡ self.setup) }
         ensures history { IsClosed M.lawful self.setup pass }
     {
-        let TableLock { table, bell: _ } = self;
+        let TableLock { table, doorbell: _ } = self;
         let Pass { seat } = pass;
         let mut closed = table.close_with(seat);
         let held = closed.take(0);
         closed.free();
-        let Some(desk) = held else { unreachable!() };
-        let Desk { machine, last: _ } = desk;
+        let Some(slot_content) = held else {
+            unreachable!()
+        };
+        let Slot { machine, last: _ } = slot_content;
         machine
     }
 }

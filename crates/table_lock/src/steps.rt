@@ -1,14 +1,14 @@
 //! The steps of a seat. Word 0 is the next ticket, word 1 the ticket that is served, and the slot holds the machine.
 ghost use Rattle.std.specs.Prelude.{◌≡◌, ℕ, ◌+◌, ◌^◌, ◌<◌, ◌≤◌, [], ◌∷◌, Some, MatchResult};
-ghost use Rattle.table_lock.specs.Lock.{Sound, forked, newcomer, note_of, learned, merged, handed_on};
-ghost use Rattle.table_lock.specs.Seats.{IsAt, IsSameSeat, IsIdle, IsRoot, IsNote, IsKnower, IsHolding, IsActing, glances, draws, Took, IsReady, IsPerformed};
+ghost use Rattle.table_lock.specs.Lock.{Sound, forked, new_pass, note_of, learned, merged, handed_on};
+ghost use Rattle.table_lock.specs.Seats.{IsAt, IsSameSeat, IsIdle, IsRoot, IsNote, IsUnspent, IsHolding, IsActing, glances, draws, Took, IsReady, IsPerformed};
 
 use crate::lock::Spent;
 use crate::machine::Machine;
-use crate::plays::{
+use crate::transitions::{
     Draw, Fork, Glance, HandOn, Learn, Look, Merge, SeatOf, Settle, SharedOf, SlotOf, Tell,
 };
-use crate::view::Last;
+use crate::view::LastCall;
 use std::snapshot::Snapshot;
 use std::sync::Wait;
 use std::{hint, thread};
@@ -112,10 +112,12 @@ fn perform<M: Machine>(slot: &mut SlotOf<M>, command: M::Command) -> M::Reply
     requires { IsReady M.stands slot.old }
     ensures { IsPerformed M.setup M.stands slot.old slot.new command result }
 {
-    let Some(desk) = slot else { unreachable!() };
+    let Some(slot_content) = slot else {
+        unreachable!()
+    };
     let asked = Snapshot::of(&command);
-    let reply = desk.machine.act(command);
-    desk.last = Some(Last {
+    let reply = slot_content.machine.act(command);
+    slot_content.last = Some(LastCall {
         command: asked,
         reply: Snapshot::of(&reply),
     });
@@ -150,7 +152,7 @@ fn wake<M: Machine>(table: &SharedOf<M>, served: u64)
 
 // Asks what the rule says of the seat's view.
 pub(crate) fn settle<M: Machine>(table: &SharedOf<M>, seat: &mut SeatOf<M>)
-    requires { IsAt table.now.table_id seat.old × IsKnower seat.old }
+    requires { IsAt table.now.table_id seat.old × IsUnspent seat.old }
     ensures { IsSameSeat seat.old seat.new × (seat.new.me ≡ seat.old.me) × Sound M.lawful seat.old.me.0 }
 {
     table.load::<Settle<M>>(seat, TICKET);
@@ -160,7 +162,7 @@ pub(crate) fn settle<M: Machine>(table: &SharedOf<M>, seat: &mut SeatOf<M>)
 pub(crate) fn fork<M: Machine>(table: &SharedOf<M>, seat: &mut SeatOf<M>) -> SeatOf<M>
     requires { IsAt table.now.table_id seat.old × IsRoot seat.old }
     ensures kept { IsSameSeat seat.old seat.new × (seat.new.me ≡ (forked seat.old.me.0, [])) }
-    ensures given { (result.table_id ≡ seat.old.table_id) × (result.me ≡ (newcomer seat.old.me.0, [])) }
+    ensures given { (result.table_id ≡ seat.old.table_id) × (result.me ≡ (new_pass seat.old.me.0, [])) }
     ensures sound { Sound M.lawful result.me.0 }
 {
     let mut new = table.split_seat::<Fork>(seat);

@@ -1,4 +1,4 @@
-//! What a seat at the table knows. It exists in proofs alone: no value of these types is made, but for a `Desk`.
+//! What a seat at the table knows. It exists in proofs alone: no value of these types is made, but for a `Slot`.
 use crate::machine::Entry;
 use std::collections::LinkedList;
 use std::snapshot::Snapshot;
@@ -47,14 +47,14 @@ pub struct View<C, R, G> {
 
 /// What the last call under the lock asked and answered.
 #[derive(Drop)]
-pub struct Last<C, R> {
+pub struct LastCall<C, R> {
     pub command: Snapshot<C>,
     pub reply: Snapshot<R>,
 }
 
 /// What lies in the slot: the machine, and what it did last.
 #[derive(Drop)]
-pub struct Desk<M, C, R> {
+pub struct Slot<M, C, R> {
     pub machine: M,
-    pub last: Option<Last<C, R>>,
+    pub last: Option<LastCall<C, R>>,
 }

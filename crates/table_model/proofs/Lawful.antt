@@ -10,15 +10,15 @@ use Rattle.table_model.specs.declared.command.Config.{Config}
 use Rattle.table_model.specs.declared.reply.Reply.{Reply}
 use Rattle.table_model.specs.declared.reply.Reply.TheVariants as reply
 use Rattle.table_model.specs.Event.{Event, events, is_began, is_params_set, is_announced, is_left, is_no_memory}
-use Rattle.table_model.specs.Sessions.{live, is_live, params_of, leaver, without, asked_by}
-use Rattle.table_model.specs.Election.{Announcement, announcements, announcement, top_id, winner, primary, unless}
+use Rattle.table_model.specs.Sessions.{live, is_live, params_of, leaving_session, without, asked_by}
+use Rattle.table_model.specs.Election.{Announcement, announcements, announcement, top_id, winner, primary, other_than}
 use Rattle.std.specs.List.{cons_option}
 use Rattle.table_model.proofs.ElectionLemmas.{winner_top, winner_other, if_live}
 use Rattle.table_model.specs.Reply.{reply_to, is_stoppable, is_halted, is_gone, caller, answer}
-use Rattle.table_model.specs.Legal.{Legal, IsAnswer, IsLawful, is_formed}
+use Rattle.table_model.specs.Legal.{Legal, IsAnswer, IsLawful, is_well_formed}
 use Rattle.table_model.proofs.Tests.{and_left, and_right, and_both, all_weaken, all_filter}
 
-lawful_step : (config : Config) (e : Event) (recorded : List Event) → IsAnswer config (events recorded) e → is_formed e.command ≡ true → IsLawful config (events recorded) → IsLawful config (events (e ∷ recorded))
+lawful_step : (config : Config) (e : Event) (recorded : List Event) → IsAnswer config (events recorded) e → is_well_formed e.command ≡ true → IsLawful config (events recorded) → IsLawful config (events (e ∷ recorded))
 unfolding events
 lawful_step config e recorded (inl told) formed rest = kept (is_no_memory e.reply)
   where
@@ -40,7 +40,7 @@ below n session = nat_lt session n
 pub live_below : (past : List Event) → list_all (below (length past)) (live past) ≡ true
 unfolding live
 live_below [] = refl
-live_below (e ∷ past) = grown (is_began e.reply) (is_left e.reply) (leaver e.command) (all_weaken (below (length past)) (below (length (e ∷ past))) (live past) (λ s h. grind (arith, nat_tests)) (live_below past))
+live_below (e ∷ past) = grown (is_began e.reply) (is_left e.reply) (leaving_session e.command) (all_weaken (below (length past)) (below (length (e ∷ past))) (live past) (λ s h. grind (arith, nat_tests)) (live_below past))
   where
     grown : (b l : Bool) (who : Option ℕ) → list_all (below (length (e ∷ past))) (live past) ≡ true → list_all (below (length (e ∷ past))) (cond b (live past ++ length past ∷ []) (cond l (without who (live past)) (live past))) ≡ true
     grown true l who h = list_all-append (below (length (e ∷ past))) (live past) (length past ∷ []) ∙ and_both (list_all (below (length (e ∷ past))) (live past)) (below (length (e ∷ past)) (length past) && true) h (and_both (below (length (e ∷ past)) (length past)) true (grind (arith, nat_tests)) refl)
@@ -142,7 +142,7 @@ pub winner_below : (n : ℕ) (made : List Announcement) → list_all (λ a. belo
 winner_below n [] h = refl
 winner_below n (a ∷ made) h = won (nat_le (top_id made) a.id) refl (winner_below n made (and_right (below n a.session) (list_all (λ x. below n x.session) made) h))
   where
-    less : (won : Option ℕ) → is_won_below n won ≡ true → is_won_below n (unless a.session won) ≡ true
+    less : (won : Option ℕ) → is_won_below n won ≡ true → is_won_below n (other_than a.session won) ≡ true
     less None k = refl
     less (Some other) k = elim (nat_eq a.session other) as (λ b. is_won_below n (cond b None (Some other)) ≡ true) [ true ↦ refl | false ↦ k ]
 

@@ -15,7 +15,7 @@ use Rattle.table_model.specs.declared.reply.Reply.TheVariants as reply
 use Rattle.table_model.specs.declared.results.FibResult.{FibResult}
 use Rattle.table_model.specs.Event.{Event, is_flushed}
 use Rattle.table_model.specs.Election.{is_primary, primary, highest}
-use Rattle.table_model.specs.Jobs.{Task, Turn, Slot, tasks, slots, fib, work_key, work_of, turn_of, task_at, number_eq, number_lt, is_undone, is_out, is_waiting, is_programmed, effect, conflict}
+use Rattle.table_model.specs.Jobs.{Task, JobUpdate, TrackedTask, tasks, tracked_tasks, fib, work_key, work_of, update_of, task_at, number_eq, number_lt, is_undone, is_out, is_waiting, is_programmed, effect, conflict}
 use Rattle.table_model.specs.Legal.{IsLawful}
 use Rattle.table_model.specs.Results.{wanted_by, result_by, is_awaited, owed, taken, results}
 use Rattle.table_model.specs.Rib.{rib, verdict}
@@ -110,23 +110,23 @@ JobsAscend = (past : List Event) → is_ascending (tasks past) ≡ true
 -- no two jobs in conflict are out
 abbrev pub OutAreApart : Config → Type 0
 OutAreApart config =
-    (past : List Event) → IsLawful config past → (before middle after : List Slot) (a b : Slot) → slots past ≡ before ++ a ∷ middle ++ b ∷ after
+    (past : List Event) → IsLawful config past → (before middle after : List TrackedTask) (a b : TrackedTask) → tracked_tasks past ≡ before ++ a ∷ middle ++ b ∷ after
     → is_out a.outcome ≡ true → is_out b.outcome ≡ true → conflict a.task b.task ≡ false
 
 -- jobs in conflict are done in the order of their numbers: where the later one is out or done, the earlier one is done
 abbrev pub ConflictsInOrder : Config → Type 0
 ConflictsInOrder config =
-    (past : List Event) → IsLawful config past → (before middle after : List Slot) (a b : Slot) → slots past ≡ before ++ a ∷ middle ++ b ∷ after
+    (past : List Event) → IsLawful config past → (before middle after : List TrackedTask) (a b : TrackedTask) → tracked_tasks past ≡ before ++ a ∷ middle ++ b ∷ after
     → conflict a.task b.task ≡ true → is_waiting b.outcome ≡ false → is_undone a.outcome ≡ false
 
-abbrev pub completes : JobNumber → Option Turn → Bool
+abbrev pub completes : JobNumber → Option JobUpdate → Bool
 completes number None = false
 completes number (Some turn) = number_eq turn.number number && not (is_undone turn.outcome)
 
 -- no job is completed twice
 abbrev pub CompletesOnce : Config → Type 0
 CompletesOnce config =
-    (past : List Event) → IsLawful config past → (number : JobNumber) → count_by (λ e. completes number (turn_of e)) past ≤ 1
+    (past : List Event) → IsLawful config past → (number : JobNumber) → count_by (λ e. completes number (update_of e)) past ≤ 1
 
 -- The forwarding table.
 
@@ -135,7 +135,7 @@ abbrev pub programmed_by : List Event → Event → Option Task
 programmed_by past e =
     option_and_then
     (λ turn. if is_programmed turn.outcome then task_at turn.number (tasks past) else None)
-    (turn_of e)
+    (update_of e)
 
 abbrev pub effect_of : Option Task → List Entry → List Entry
 effect_of None table = table
@@ -171,10 +171,10 @@ is_skip (reply.Skipped number) = true
 is_skip _ = false
 
 -- where no device fails, no job is skipped, and where no job is undone the tables are the same
-abbrev pub FaultlessIsSame : Config → Type 0
-FaultlessIsSame config =
+abbrev pub FibIsRibWithoutFaults : Config → Type 0
+FibIsRibWithoutFaults config =
     (past : List Event) → IsLawful config past → list_any (λ e. is_fault e.command) past ≡ false
-    → (list_any (λ e. is_skip e.reply) past ≡ false) × (list_any (λ slot. is_undone slot.outcome) (slots past) ≡ false → fib past ≡ rib past)
+    → (list_any (λ e. is_skip e.reply) past ≡ false) × (list_any (λ tracked. is_undone tracked.outcome) (tracked_tasks past) ≡ false → fib past ≡ rib past)
 
 -- Results.
 
@@ -182,7 +182,7 @@ FaultlessIsSame config =
 abbrev pub ProgrammedWasReported : Type 0
 ProgrammedWasReported =
     (past : List Event) (e : Event) (session : ℕ) (result : FibResult)
-    → result_by session (tasks past) (turn_of e) ≡ Some result → result.failed ≡ None
+    → result_by session (tasks past) (update_of e) ≡ Some result → result.failed ≡ None
     → (number : JobNumber) × (task : Task) × (e.command ≡ Report number Programmed result.now) × (e.reply ≡ reply.Reported)
     × (task_at number (tasks past) ≡ Some task) × (task.id ≡ result.id) × (wanted_by session task ≡ true)
 
@@ -190,21 +190,21 @@ abbrev pub batch_in : Reply → List FibResult
 batch_in (reply.Collected given outstanding) = given
 batch_in _ = []
 
-abbrev pub handed_by : ℕ → Event → List FibResult
-handed_by session e = elim e.command [
+abbrev pub results_collected_by : ℕ → Event → List FibResult
+results_collected_by session e = elim e.command [
   | Collect asker ↦ if asker == session then batch_in e.reply else []
   | _ ↦ []
 ]
 
 -- all results that the session's Collects answered, in order
-unfoldable pub handed : List Event → ℕ → List FibResult
-handed [] session = []
-handed (e ∷ past) session = handed past session ++ handed_by session e
+unfoldable pub collected_results : List Event → ℕ → List FibResult
+collected_results [] session = []
+collected_results (e ∷ past) session = collected_results past session ++ results_collected_by session e
 
 -- what Collects answer are the first of the session's results, each once
 abbrev pub AnsweredOnce : Config → Type 0
 AnsweredOnce config =
-    (past : List Event) (session : ℕ) → IsLawful config past → handed past session ≡ take (taken past session) (results past session)
+    (past : List Event) (session : ℕ) → IsLawful config past → collected_results past session ≡ take (taken past session) (results past session)
 
 -- what a Collect answers as outstanding is what the session is owed right after it
 abbrev pub OutstandingIsOwed : Config → Type 0
@@ -218,5 +218,5 @@ abbrev pub AllAnswered : Config → Type 0
 AllAnswered config =
     (past : List Event) (session : ℕ) (given : List FibResult)
     → IsLawful config (event (Collect session) (reply.Collected given 0) ∷ past)
-    → (list_any (is_awaited session) (slots past) ≡ false)
-    × (handed past session ++ given ≡ results past session) × (length (results past session) ≡ count_by (wanted_by session) (tasks past))
+    → (list_any (is_awaited session) (tracked_tasks past) ≡ false)
+    × (collected_results past session ++ given ≡ results past session) × (length (results past session) ≡ count_by (wanted_by session) (tasks past))

@@ -9,5 +9,5 @@ pub mod Rib
 pub mod Sessions
 pub mod Table
 pub mod Laws
-pub mod Ledger
-pub mod Played
+pub mod BoardState
+pub mod ServerHistory

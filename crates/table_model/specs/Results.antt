@@ -5,7 +5,7 @@ use Rattle.table_model.specs.declared.results.FibResult.{FibResult}
 use Rattle.table_model.specs.declared.reply.Reply.{Reply}
 use Rattle.table_model.specs.declared.reply.Reply.TheVariants.{Collected}
 use Rattle.table_model.specs.Event.{Event}
-use Rattle.table_model.specs.Jobs.{Task, Turn, Slot, Outcome, Faulted, PassedOver, tasks, slots, turn_of, task_at, is_undone, skip_reason}
+use Rattle.table_model.specs.Jobs.{Task, JobUpdate, TrackedTask, Outcome, Faulted, PassedOver, tasks, tracked_tasks, update_of, task_at, is_undone, skip_reason}
 
 -- whose results the session collects
 abbrev pub wanted_by : ℕ → Task → Bool
@@ -18,7 +18,7 @@ failure task PassedOver = Some (skip_reason task.job.work)
 failure task _ = None
 
 -- the result that an event brings the session. In a lawful history the turn's job is found: it was made before
-abbrev pub result_by : ℕ → List Task → Option Turn → Option FibResult
+abbrev pub result_by : ℕ → List Task → Option JobUpdate → Option FibResult
 result_by session made None = None
 result_by session made (Some turn) =
     if is_undone turn.outcome then None
@@ -29,7 +29,7 @@ result_by session made (Some turn) =
 -- in the order of completion
 unfoldable pub results : List Event → ℕ → List FibResult
 results [] session = []
-results (e ∷ past) session = results past session ++ option_to_list (result_by session (tasks past) (turn_of e))
+results (e ∷ past) session = results past session ++ option_to_list (result_by session (tasks past) (update_of e))
 
 abbrev pub batch_length : Reply → ℕ
 batch_length (Collected batch outstanding) = length batch
@@ -50,14 +50,14 @@ taken (e ∷ past) session = taken past session + collected_by session e
 unfoldable pub batch : List Event → ℕ → List FibResult
 batch past session = take 256 (drop (taken past session) (results past session))
 
-abbrev pub is_awaited : ℕ → Slot → Bool
-is_awaited session slot = wanted_by session slot.task && is_undone slot.outcome
+abbrev pub is_awaited : ℕ → TrackedTask → Bool
+is_awaited session tracked = wanted_by session tracked.task && is_undone tracked.outcome
 
 -- how many answers the session waits for or hasn't collected
 unfoldable pub owed : List Event → ℕ → ℕ
-owed past session = count_by (is_awaited session) (slots past) + (length (results past session) - taken past session)
+owed past session = count_by (is_awaited session) (tracked_tasks past) + (length (results past session) - taken past session)
 
 -- how many answers it is owed once it has collected the batch
 unfoldable pub outstanding : List Event → ℕ → ℕ
 outstanding past session =
-    count_by (is_awaited session) (slots past) + (length (results past session) - (taken past session + length (batch past session)))
+    count_by (is_awaited session) (tracked_tasks past) + (length (results past session) - (taken past session + length (batch past session)))

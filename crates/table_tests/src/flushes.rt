@@ -46,15 +46,15 @@ fn filled(alloc: Global, items: &[Item]) -> Result<Store, AllocError> {
 }
 
 // Whether the flush leaves those of the table that are told, and whether an entry of a named instance stays.
-fn leaves(store: &Store, which: Which, marks: &mut Marks, told: &[bool], remain: bool) -> bool
+fn leaves(store: &Store, which: Which, marks: &mut Marks, expected: &[bool], remain: bool) -> bool
     requires { length store.now.entries ≤ marks.old.room }
     ensures { marks.new.room ≡ marks.old.room }
 {
     let mut is_right = mark_flush(store, which, marks) == remain;
     for n in 0..store.len() {
-        is_right &= told.get(n as usize) == Some(&marks.at(n));
+        is_right &= expected.get(n as usize) == Some(&marks.at(n));
     }
-    is_right && told.len() as u64 == store.len()
+    is_right && expected.len() as u64 == store.len()
 }
 
 /// A flush of instance 0 leaves what the route of instance 1 reaches, by three references.
@@ -73,9 +73,9 @@ fn a_flush_leaves_what_others_reach(rt: HostRuntime) -> Result<(), Fail> {
 }
 
 // Whether these are the rows, by the places of their entries in the table.
-fn are(rows: &[Row], store: &Store, told: &[(u64, bool)]) -> bool {
-    let mut is_right = rows.len() == told.len();
-    for (row, (place, installed)) in rows.iter().zip(told) {
+fn are(rows: &[Row], store: &Store, expected: &[(u64, bool)]) -> bool {
+    let mut is_right = rows.len() == expected.len();
+    for (row, (place, installed)) in rows.iter().zip(expected) {
         is_right &= *place < store.len() && store.at(*place).key == row.entry.key;
         is_right &= row.installed == *installed;
     }
@@ -88,11 +88,11 @@ fn selects(
     fib: &Store,
     which: Which,
     kinds: KindAsk,
-    told: &[(u64, bool)],
+    expected: &[(u64, bool)],
 ) -> bool {
     match select(alloc, store, fib, which, kinds) {
         Err(_) => false,
-        Ok(rows) => are(rows.as_slice(), store, told),
+        Ok(rows) => are(rows.as_slice(), store, expected),
     }
 }
 

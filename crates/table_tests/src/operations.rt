@@ -53,7 +53,7 @@ const TURNS: &[(bool, Item, Option<Reason>)] = &[
     (false, Group(6, 1, None), None),
 ];
 
-fn ends_as_told(alloc: Global) -> Result<bool, AllocError> {
+fn ends_as_expected(alloc: Global) -> Result<bool, AllocError> {
     let mut store = Store::new(alloc);
     let mut is_right = true;
     for (removed, item, reason) in TURNS {
@@ -64,6 +64,6 @@ fn ends_as_told(alloc: Global) -> Result<bool, AllocError> {
 
 #[test]
 fn operations_in_turn(rt: HostRuntime) -> Result<(), Fail> {
-    assert!(rt; ends_as_told(rt.alloc())?);
+    assert!(rt; ends_as_expected(rt.alloc())?);
     Ok(())
 }

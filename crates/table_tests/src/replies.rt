@@ -3,7 +3,7 @@ use table_model::{Params, Reply};
 
 /// A reply: of lists it tells how long they are, and of rows how many are installed too.
 #[derive(Clone, Copy, PartialEq, Eq)]
-pub enum Told {
+pub enum ReplySummary {
     Began(u64),
     Set,
     Unsupported,
@@ -31,35 +31,35 @@ pub enum Told {
     NoMemory,
 }
 
-pub fn seen(reply: &Reply) -> Told {
+pub fn summary_of(reply: &Reply) -> ReplySummary {
     match reply {
-        Reply::Began(session) => Told::Began(*session),
-        Reply::ParamsSet => Told::Set,
-        Reply::ParamsUnsupported => Told::Unsupported,
-        Reply::ParamsNotAllowed => Told::NotAllowed,
-        Reply::ParamsDiffer(params) => Told::Differ(*params),
-        Reply::NoParams => Told::NoParams,
-        Reply::Announced(id) => Told::Announced(*id),
-        Reply::ZeroId => Told::ZeroId,
-        Reply::RibDone => Told::Accepted,
-        Reply::RibFailed(reason) => Told::Failed(*reason),
-        Reply::Collected(batch, left) => Told::Collected(batch.len(), *left),
-        Reply::Left => Told::Left,
-        Reply::Flushed(remain) => Told::Flushed(*remain),
-        Reply::FlushRefused(id) => Told::Refused(*id),
+        Reply::Began(session) => ReplySummary::Began(*session),
+        Reply::ParamsSet => ReplySummary::Set,
+        Reply::ParamsUnsupported => ReplySummary::Unsupported,
+        Reply::ParamsNotAllowed => ReplySummary::NotAllowed,
+        Reply::ParamsDiffer(params) => ReplySummary::Differ(*params),
+        Reply::NoParams => ReplySummary::NoParams,
+        Reply::Announced(id) => ReplySummary::Announced(*id),
+        Reply::ZeroId => ReplySummary::ZeroId,
+        Reply::RibDone => ReplySummary::Accepted,
+        Reply::RibFailed(reason) => ReplySummary::Failed(*reason),
+        Reply::Collected(batch, left) => ReplySummary::Collected(batch.len(), *left),
+        Reply::Left => ReplySummary::Left,
+        Reply::Flushed(remain) => ReplySummary::Flushed(*remain),
+        Reply::FlushRefused(id) => ReplySummary::Refused(*id),
         Reply::Selected(rows) => {
             let rows = rows.as_slice();
-            Told::Rows(rows.len(), rows.iter().filter(|row| row.installed).count())
+            ReplySummary::Rows(rows.len(), rows.iter().filter(|row| row.installed).count())
         }
-        Reply::Given(job) => Told::Given(job.number.position, job.number.index),
-        Reply::Skipped(number) => Told::Skipped(number.position, number.index),
-        Reply::Idle => Told::Idle,
-        Reply::HaltSeen => Told::HaltSeen,
-        Reply::Reported => Told::Reported,
-        Reply::NotOut => Told::NotOut,
-        Reply::HaltDone => Told::HaltDone,
-        Reply::Stopped => Told::Stopped,
-        Reply::Gone => Told::Gone,
-        Reply::NoMemory => Told::NoMemory,
+        Reply::Given(job) => ReplySummary::Given(job.number.position, job.number.index),
+        Reply::Skipped(number) => ReplySummary::Skipped(number.position, number.index),
+        Reply::Idle => ReplySummary::Idle,
+        Reply::HaltSeen => ReplySummary::HaltSeen,
+        Reply::Reported => ReplySummary::Reported,
+        Reply::NotOut => ReplySummary::NotOut,
+        Reply::HaltDone => ReplySummary::HaltDone,
+        Reply::Stopped => ReplySummary::Stopped,
+        Reply::Gone => ReplySummary::Gone,
+        Reply::NoMemory => ReplySummary::NoMemory,
     }
 }

@@ -22,7 +22,7 @@ pub enum Item {
 
 /// A command. Operations bear the id that is given, and every moment is 0.
 #[derive(Clone, Copy)]
-pub enum Do {
+pub enum TestCommand {
     Begin,
     Params(u64, Persistence, AckType),
     AllPrimary(u64),
@@ -185,30 +185,30 @@ fn report(position: u64, index: u64, verdict: Verdict) -> Command {
     Command::Report(JobNumber { position, index }, verdict, 0)
 }
 
-pub fn command(alloc: Global, step: Do) -> Result<Command, AllocError> {
+pub fn command(alloc: Global, step: TestCommand) -> Result<Command, AllocError> {
     match step {
-        Do::Begin => Ok(Command::Begin),
-        Do::Params(session, persistence, ack) => {
+        TestCommand::Begin => Ok(Command::Begin),
+        TestCommand::Params(session, persistence, ack) => {
             Ok(params(session, Redundancy::SinglePrimary, persistence, ack))
         }
-        Do::AllPrimary(session) => Ok(params(
+        TestCommand::AllPrimary(session) => Ok(params(
             session,
             Redundancy::AllPrimary,
             Persistence::Preserve,
             AckType::Rib,
         )),
-        Do::Announce(session, id) => Ok(Command::Announce(session, id)),
-        Do::Add(session, id, item) => put(alloc, session, id, item, false),
-        Do::Replace(session, id, item) => put(alloc, session, id, item, true),
-        Do::Delete(session, id, item) => Ok(operate(session, id, Ask::Remove(key(item)))),
-        Do::Bad(session, id, reason) => Ok(operate(session, id, Ask::Bad(reason))),
-        Do::Collect(session) => Ok(Command::Collect(session)),
-        Do::Leave(session) => Ok(Command::Leave(session)),
-        Do::Flush(by, which) => Ok(Command::Flush(by, which, 0)),
-        Do::Get(which) => Ok(Command::Select(which, KindAsk::All)),
-        Do::Take(worker) => Ok(Command::Take(worker, 0)),
-        Do::Done(position, index) => Ok(report(position, index, Verdict::Programmed)),
-        Do::Failed(position, index) => Ok(report(position, index, Verdict::DeviceFault)),
-        Do::Halt => Ok(Command::Halt),
+        TestCommand::Announce(session, id) => Ok(Command::Announce(session, id)),
+        TestCommand::Add(session, id, item) => put(alloc, session, id, item, false),
+        TestCommand::Replace(session, id, item) => put(alloc, session, id, item, true),
+        TestCommand::Delete(session, id, item) => Ok(operate(session, id, Ask::Remove(key(item)))),
+        TestCommand::Bad(session, id, reason) => Ok(operate(session, id, Ask::Bad(reason))),
+        TestCommand::Collect(session) => Ok(Command::Collect(session)),
+        TestCommand::Leave(session) => Ok(Command::Leave(session)),
+        TestCommand::Flush(by, which) => Ok(Command::Flush(by, which, 0)),
+        TestCommand::Get(which) => Ok(Command::Select(which, KindAsk::All)),
+        TestCommand::Take(worker) => Ok(Command::Take(worker, 0)),
+        TestCommand::Done(position, index) => Ok(report(position, index, Verdict::Programmed)),
+        TestCommand::Failed(position, index) => Ok(report(position, index, Verdict::DeviceFault)),
+        TestCommand::Halt => Ok(Command::Halt),
     }
 }

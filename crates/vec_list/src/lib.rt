@@ -2,6 +2,7 @@
 //!
 //! `VecList::from_vec` takes a `Vec` as it is, and `as_slice` lends its items.
 #![tactic(auto)]
+
 ghost use Rattle.std.specs.Prelude.{◌≡◌, [], ◌∷◌, ◌++◌, OnOk, OnErr};
 
 use std::alloc::{AllocError, Global};

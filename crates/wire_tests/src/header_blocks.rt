@@ -1,5 +1,5 @@
 ghost use Rattle.std.specs.Prelude.{◌≤◌, sum_by, IfOk};
-ghost use Rattle.hpack_tables.specs.Room.{size_of};
+ghost use Rattle.hpack_tables.specs.EntrySizes.{size_of};
 
 use crate::fields::shown;
 use hpack_tables::{Field, Fields, HeaderDecoder, HeaderEncoder, HpackFault, Style};

@@ -6,18 +6,18 @@ mod call_heads;
 #[cfg(test)]
 mod call_trailers;
 #[cfg(test)]
+mod connection_prefaces;
+#[cfg(test)]
 mod fields;
 #[cfg(test)]
 mod frames;
-#[cfg(test)]
-mod greetings;
 #[cfg(test)]
 mod header_blocks;
 #[cfg(test)]
 mod huffman_strings;
 #[cfg(test)]
-mod listening;
-#[cfg(test)]
 mod messages;
+#[cfg(test)]
+mod preface_calls;
 #[cfg(test)]
 mod streams;

@@ -3,7 +3,7 @@ ghost use Rattle.std.specs.Prelude.{◌≡◌, ◌%◌, ◌^◌, List, None, tru
 ghost use Rattle.std.specs.Int.{w32, from_be_bytes};
 ghost use Rattle.h2_exchange.specs.Frames as say;
 ghost use Rattle.h2_exchange.specs.Rules as rule;
-ghost use Rattle.h2_streams.specs.Judging.{frame_error_in, live_error_in, shape_error_in, window_error_in};
+ghost use Rattle.h2_streams.specs.ConnectionErrors.{frame_error_in, live_error_in, shape_error_in, window_error_in};
 
 use super::StreamSet;
 use crate::live::Stream;
@@ -104,7 +104,7 @@ impl StreamSet {
             Frame::Content(_) => {
                 if (stream.receive as usize) < payload.len() {
                     Some(ErrorCode::FLOW_CONTROL_ERROR)
-                } else if stream.is_ended_there {
+                } else if stream.is_closed_remote {
                     Some(ErrorCode::STREAM_CLOSED)
                 } else {
                     None

@@ -9,12 +9,12 @@ ghost use Rattle.h2_exchange.specs.Frames as say;
 ghost use Rattle.h2_exchange.specs.Rules.{frame_error};
 ghost use Rattle.h2_exchange.specs.StreamErrors.{stream_error_of};
 ghost use Rattle.h2_exchange.specs.Windows.{setting, settings_in};
-ghost use Rattle.h2_streams.specs.Judging.{frame_error_in};
+ghost use Rattle.h2_streams.specs.ConnectionErrors.{frame_error_in};
 ghost use Rattle.h2_streams.specs.Receiving as hear;
 ghost use Rattle.h2_streams.specs.Stands.{StandsFor};
 
 use super::{OpenBlock, StreamSet};
-use crate::live::{self, Fate, Stream};
+use crate::live::{self, Stream, StreamOutcome};
 use crate::set::judge::increment;
 use crate::{rules, settings};
 use h2_exchange::StreamFault;
@@ -171,7 +171,7 @@ impl StreamSet {
         ensures { result ≡ hear.block_error_in self.now frame.now stream (hear.completed_by self.now.block frame.now) }
     {
         let block = completed_by(self.block, frame)?;
-        if stream.is_ended_there {
+        if stream.is_closed_remote {
             Some(ErrorCode::STREAM_CLOSED)
         } else if stream.has_head && !block.last {
             Some(ErrorCode::PROTOCOL_ERROR)
@@ -209,36 +209,41 @@ impl StreamSet {
         let ends = rules::is_data(frame) && rules::has_flag(frame, END_STREAM) || is_last;
         Stream {
             id: stream.id,
-            is_ended_here: stream.is_ended_here,
-            is_ended_there: stream.is_ended_there || ends,
+            is_closed_local: stream.is_closed_local,
+            is_closed_remote: stream.is_closed_remote || ends,
             has_head: stream.has_head || block.is_some(),
             room: stream.room + granted(frame),
             receive: stream.receive.saturating_sub(counted(frame)),
         }
     }
 
-    fn left_as(&self, frame: &Frame, stream: Stream) -> Fate
+    fn left_as(&self, frame: &Frame, stream: Stream) -> StreamOutcome
         requires four { say.is_window_update frame.now ≡ true → say.payload_length frame.now ≡ 4 }
         requires fits { stream.room + hear.granted_by frame.now < 2 ^ 32 }
         ensures { result ≡ hear.left_as frame.now (hear.changed_in self.now frame.now stream) }
     {
         let left = self.changed(frame, stream);
-        if rules::is_rst_stream(frame) || left.is_ended_there && left.is_ended_here {
-            Fate::Over
+        if rules::is_rst_stream(frame) || left.is_closed_remote && left.is_closed_local {
+            StreamOutcome::Over
         } else {
-            Fate::Alive(left)
+            StreamOutcome::Alive(left)
         }
     }
 
     /// What becomes of the stream of a frame.
-    fn fate(&self, frame: &Frame, fault: Option<ErrorCode>, seen: Option<Stream>) -> Fate
+    fn outcome(
+        &self,
+        frame: &Frame,
+        fault: Option<ErrorCode>,
+        seen: Option<Stream>,
+    ) -> StreamOutcome
         requires four { say.is_window_update frame.now ≡ true → say.payload_length frame.now ≡ 4 }
         requires fault { fault ≡ hear.fault_on self.now frame.now seen }
-        ensures { result ≡ hear.fate_on self.now frame.now fault seen }
+        ensures { result ≡ hear.outcome_on self.now frame.now fault seen }
     {
         match (seen, fault) {
-            (None, _) => Fate::Unseen,
-            (Some(_), Some(_)) => Fate::Over,
+            (None, _) => StreamOutcome::NoStream,
+            (Some(_), Some(_)) => StreamOutcome::Over,
             (Some(stream), None) => self.left_as(frame, stream),
         }
     }
@@ -253,8 +258,8 @@ impl StreamSet {
         ensures { self.new ≡ hear.taken self.old frame.now }
     {
         let id = frame.body().stream;
-        let fate = self.fate(frame, fault, seen);
-        live::settle(&mut self.live, is_new, id, fate);
+        let outcome = self.outcome(frame, fault, seen);
+        live::apply_outcome(&mut self.live, is_new, id, outcome);
         self.highest = highest_behind(self.highest, is_new, id);
         self.is_started = true;
         self.block = left_open(self.block, frame);

@@ -1,5 +1,5 @@
 ghost use Rattle.std.specs.Prelude.{◌≡◌, ◌<◌, ◌≤◌, Bool, true, false, length, IfOk};
-ghost use Rattle.hpack_tables.specs.Answers.{Meets};
+ghost use Rattle.hpack_tables.specs.Answers.{IsAllowedBy};
 ghost use Rattle.hpack_tables.specs.Progress.{state_of};
 ghost use Rattle.hpack_tables.specs.Reading.{before, with_field, resized, IndexedAt, ResizeAt, NameAt, LiteralAt, ItemAt, BlockAt};
 
@@ -16,7 +16,7 @@ const MAX_LIST: u64 = 65_536;
 impl Progress {
     /// Adds a field, and lets the table take it or not.
     fn add(&mut self, taken: bool, name: Bytes, value: Bytes) -> Result<(), HpackFault>
-        ensures { Meets (λ _. state_of self.new) result (λ out. out ≡ with_field taken (state_of self.old) (record { name = name; value = value })) }
+        ensures { IsAllowedBy (λ _. state_of self.new) result (λ out. out ≡ with_field taken (state_of self.old) (record { name = name; value = value })) }
     {
         if name.len() > 65_536 || value.len() > 65_536 {
             return Err(HpackFault::ListTooLong);
@@ -35,7 +35,7 @@ impl Progress {
     }
 
     fn resize(&mut self, limit: u32, size: u32) -> Result<(), HpackFault>
-        ensures { Meets (λ _. state_of self.new) result (λ out. out ≡ resized limit (state_of self.old) size) }
+        ensures { IsAllowedBy (λ _. state_of self.new) result (λ out. out ≡ resized limit (state_of self.old) size) }
     {
         if !self.fields.as_slice().is_empty() {
             return Err(HpackFault::LateSizeUpdate);
@@ -48,7 +48,7 @@ impl Progress {
     }
 
     fn indexed<'a>(&mut self, bytes: &'a [u8]) -> Result<&'a [u8], HpackFault>
-        ensures read { Meets (λ rest. (state_of self.new, rest.now)) result (IndexedAt (state_of self.old) bytes.now) }
+        ensures read { IsAllowedBy (λ rest. (state_of self.new, rest.now)) result (IndexedAt (state_of self.old) bytes.now) }
         ensures shorter { IfOk result (λ rest. length rest.now < length bytes.now) }
     {
         let (index, rest) = integer(HpackFault::BadInteger, 7, bytes)?;
@@ -58,7 +58,7 @@ impl Progress {
     }
 
     fn resizes<'a>(&mut self, limit: u32, bytes: &'a [u8]) -> Result<&'a [u8], HpackFault>
-        ensures read { Meets (λ rest. (state_of self.new, rest.now)) result (ResizeAt limit (state_of self.old) bytes.now) }
+        ensures read { IsAllowedBy (λ rest. (state_of self.new, rest.now)) result (ResizeAt limit (state_of self.old) bytes.now) }
         ensures shorter { IfOk result (λ rest. length rest.now < length bytes.now) }
     {
         let (size, rest) = integer(HpackFault::BadInteger, 5, bytes)?;
@@ -73,7 +73,7 @@ impl Progress {
         index: u32,
         rest: &'a [u8],
     ) -> Result<(Bytes, &'a [u8]), HpackFault>
-        ensures read { Meets (λ x. (x.0, x.1.now)) result (NameAt (state_of self.now) index rest.now) }
+        ensures read { IsAllowedBy (λ x. (x.0, x.1.now)) result (NameAt (state_of self.now) index rest.now) }
         ensures shorter { IfOk result (λ x. length x.1.now ≤ length rest.now) }
     {
         if index == 0 {
@@ -91,7 +91,7 @@ impl Progress {
         bytes: &'a [u8],
     ) -> Result<&'a [u8], HpackFault>
         requires { prefix < 8 }
-        ensures read { Meets (λ rest. (state_of self.new, rest.now)) result (LiteralAt taken prefix (state_of self.old) bytes.now) }
+        ensures read { IsAllowedBy (λ rest. (state_of self.new, rest.now)) result (LiteralAt taken prefix (state_of self.old) bytes.now) }
         ensures shorter { IfOk result (λ rest. length rest.now < length bytes.now) }
     {
         let (index, rest) = integer(HpackFault::BadInteger, prefix, bytes)?;
@@ -109,7 +109,7 @@ impl Progress {
         first: u8,
         bytes: &'a [u8],
     ) -> Result<&'a [u8], HpackFault>
-        ensures read { Meets (λ rest. (state_of self.new, rest.now)) result (ItemAt limit (state_of self.old) first bytes.now) }
+        ensures read { IsAllowedBy (λ rest. (state_of self.new, rest.now)) result (ItemAt limit (state_of self.old) first bytes.now) }
         ensures shorter { IfOk result (λ rest. length rest.now < length bytes.now) }
     {
         if first >= 128 {
@@ -125,7 +125,7 @@ impl Progress {
 
     /// Reads what is left of a block.
     pub fn items(&mut self, alloc: Global, limit: u32, block: &[u8]) -> Result<(), HpackFault>
-        ensures { Meets (λ _. state_of self.new) result (BlockAt limit (state_of self.old) block.now) }
+        ensures { IsAllowedBy (λ _. state_of self.new) result (BlockAt limit (state_of self.old) block.now) }
     {
         let mut left = block;
         while let [first, ..] = left {

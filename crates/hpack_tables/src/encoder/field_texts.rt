@@ -1,6 +1,6 @@
 ghost use Rattle.std.specs.Prelude.{◌≡◌, ◌≤◌, ◌++◌, List, ℕ, true, false, sum_by, OnOk};
 ghost use Rattle.hpack_tables.specs.Entries.{Entries};
-ghost use Rattle.hpack_tables.specs.Room.{size_of};
+ghost use Rattle.hpack_tables.specs.EntrySizes.{size_of};
 ghost use Rattle.hpack_tables.specs.Writing.{IsName, IsLiteral, IsFieldText, AreFieldTexts, index_of, first_bits, prefix, integer_text, taken, update_text};
 
 use crate::encoder::Style;

@@ -1,5 +1,5 @@
 use Rattle.std.proofs.Common.{◌≡◌, length}
-use Rattle.addr_text.specs.Texts as spec
+use Rattle.addr_text.specs.AddressGrammar as spec
 use Rattle.addr_text.specs.Counting.{counted, counted_from, IsSmall}
 use Rattle.addr_text.proofs.groups.read_groups.Given as goal
 

@@ -1,4 +1,4 @@
-use Rattle.addr_text.specs.Texts as spec
+use Rattle.addr_text.specs.AddressGrammar as spec
 use Rattle.addr_text.proofs.Scanning.{run_done}
 use Rattle.addr_text.proofs.number.decimal_digits.Goals as goal
 

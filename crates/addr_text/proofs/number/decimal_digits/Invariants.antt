@@ -1,5 +1,5 @@
 use Rattle.std.proofs.Common.{◌≡◌, ◌<◌, ◌^◌, drop}
-use Rattle.addr_text.specs.Texts.{digit}
+use Rattle.addr_text.specs.AddressGrammar.{digit}
 use Rattle.addr_text.proofs.Scanning.{run}
 use Rattle.addr_text.proofs.number.decimal_digits.Given as goal
 

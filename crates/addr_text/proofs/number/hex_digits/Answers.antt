@@ -1,5 +1,5 @@
 use Rattle.std.proofs.Common.{sym, arith}
-use Rattle.addr_text.specs.Texts as spec
+use Rattle.addr_text.specs.AddressGrammar as spec
 use Rattle.addr_text.proofs.Scanning.{run_done, run_fails, below_4096, below_65536, below_256}
 use Rattle.addr_text.proofs.number.hex_digits.Goals as goal
 

@@ -1,5 +1,5 @@
 use Rattle.std.proofs.Common.{◌≡◌, ◌<◌, ◌^◌, drop}
-use Rattle.addr_text.specs.Texts.{hex_digit}
+use Rattle.addr_text.specs.AddressGrammar.{hex_digit}
 use Rattle.addr_text.proofs.Scanning.{run}
 use Rattle.addr_text.proofs.number.hex_digits.Given as goal
 

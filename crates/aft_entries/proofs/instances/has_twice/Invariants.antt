@@ -1,6 +1,6 @@
 use Rattle.std.proofs.Common.{◌≡◌, drop, string_bytes}
 use Rattle.std.specs.Str.{bytes_eq}
-use Rattle.aft_entries.specs.Naming.{holds_twice}
+use Rattle.aft_entries.specs.InstanceNames.{holds_twice}
 use Rattle.aft_entries.proofs.instances.has_twice.Given as goal
 
 -- no name so far stands again

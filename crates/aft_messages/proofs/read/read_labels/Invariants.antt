@@ -1,5 +1,5 @@
 use Rattle.std.proofs.Common.{◌≡◌, ◌++◌, length, map}
-use Rattle.proto_schema.specs.Words.{pieces}
+use Rattle.proto_schema.specs.FieldValues.{pieces}
 use Rattle.aft_messages.specs.Reading.{label_of}
 use Rattle.proto_wire.specs.Fields.{fields, fields_from}
 use Rattle.aft_messages.proofs.read.read_labels.Given as goal

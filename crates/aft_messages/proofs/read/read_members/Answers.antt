@@ -1,6 +1,6 @@
 use Rattle.std.proofs.Common.{rules, arith}
 use Rattle.std.proofs.lemmas.Grind.{common_steps}
-use Rattle.proto_schema.specs.Words.{repeated_at}
+use Rattle.proto_schema.specs.FieldValues.{repeated_at}
 use Rattle.aft_messages.proofs.read.read_members.Goals as goal
 
 pub returns-in_default : goal.returns-in_default

@@ -1,7 +1,7 @@
 use Rattle.std.proofs.Common.{ℕ, List, map, pos, refl, ap}
-use Rattle.message_run.specs.declared.answerer.Answered.TheVariants.{Ends, NoMemory}
-use Rattle.session_engine.specs.Orders.{operation_at}
-use Rattle.session_engine.specs.declared.orders.Setting.{Setting}
+use Rattle.message_run.specs.declared.message_handler.Handled.TheVariants.{Ends, NoMemory}
+use Rattle.call_answers.specs.Orders.{operation_at}
+use Rattle.call_answers.specs.declared.orders.Setting.{Setting}
 use Rattle.table_model.specs.declared.command.Command.{Command}
 use Rattle.table_model.specs.declared.command.Command.TheVariants.{Operate}
 use Rattle.table_model.specs.declared.command.Operation.{Operation}
@@ -21,7 +21,7 @@ pub do_piece-requires-clause-stood : goal.do_piece-requires-clause-stood
 do_piece-requires-clause-stood c = still_stands c.args.setting.now.numbering c.args.core.now c.loop-piece.core _ _ _ _ c.loop-piece.invariant c.requires.stood
 
 pub loop-piece-preserved : goal.loop-piece-preserved
-loop-piece-preserved c = one_done c.args.setting.now.numbering c.args.core.now c.loop-piece.core c.do_piece.new.core _ _ _ _ _ _ _ c.loop-piece.invariant (ap (coming c.args.setting.now c.args.number) c.in-Some.ensures) c.in-GoesOn.ensures
+loop-piece-preserved c = one_done c.args.setting.now.numbering c.args.core.now c.loop-piece.core c.do_piece.new.core _ _ _ _ _ _ _ c.loop-piece.invariant (ap (coming c.args.setting.now c.args.number) c.in-Some.ensures) c.in-Continue.ensures
 
 pub returns-in-Ends : goal.returns-in-Ends
 returns-in-Ends c = next_ends c.args.setting.now.numbering c.args.core.now c.loop-piece.core c.do_piece.new.core _ _ _ _ (Ends c.in-Ends.code) _ _ _ refl c.loop-piece.invariant (ap (coming c.args.setting.now c.args.number) c.in-Some.ensures) c.in-Ends.ensures
@@ -29,7 +29,7 @@ returns-in-Ends c = next_ends c.args.setting.now.numbering c.args.core.now c.loo
 pub returns-in-NoMemory : goal.returns-in-NoMemory
 returns-in-NoMemory c = next_ends c.args.setting.now.numbering c.args.core.now c.loop-piece.core c.do_piece.new.core _ _ _ _ NoMemory _ _ _ refl c.loop-piece.invariant (ap (coming c.args.setting.now c.args.number) c.in-Some.ensures) c.in-NoMemory.ensures
 
-pub returns-in-Unread : goal.returns-in-Unread
-returns-in-Unread c =
+pub returns-in-Unreadable : goal.returns-in-Unreadable
+returns-in-Unreadable c =
     let s = still_stands c.args.setting.now.numbering c.args.core.now c.loop-piece.core _ _ _ _ c.loop-piece.invariant c.requires.stood in
-    absurd (c.in-Unread.ensures s.0 s.1 s.2)
+    absurd (c.in-Unreadable.ensures s.0 s.1 s.2)

@@ -1,5 +1,5 @@
 use Rattle.std.proofs.Common.{map, pos, length}
-use Rattle.session_engine.specs.Orders.{operation_at, orders_of}
+use Rattle.call_answers.specs.Orders.{operation_at, orders_of}
 use Rattle.table_model.specs.declared.command.Command.TheVariants.{Operate}
 use Rattle.apply_path.proofs.Steps.{DoneSoFar}
 use Rattle.apply_path.proofs.session.do_operations.Given as goal

@@ -1,6 +1,6 @@
 use Rattle.std.proofs.Common.{◌++◌, refl, sym, ◌∙◌}
 use Rattle.std.specs.Prelude.{◌==◌}
-use Rattle.table_model.specs.Ledger.{due_for}
+use Rattle.table_model.specs.BoardState.{due_for}
 use Rattle.fib_board.proofs.Rows.{row_changed, row_added, appended_if}
 use Rattle.fib_board.proofs.due.append.Goals as goal
 
@@ -13,4 +13,4 @@ returns-in-Some-clause-due c other =
 pub returns-in-None-clause-due : goal.returns-in-None-clause-due
 returns-in-None-clause-due c other =
     let missing = sym (rw c.deref.ensures.value at c.place_of.ensures) ∙ c.in-None.is in
-    rw c.add_row.ensures.items (row_added _ c.args.session missing c.args.more other)
+    rw c.add_session_results.ensures.items (row_added _ c.args.session missing c.args.more other)

@@ -1,7 +1,7 @@
 use Rattle.std.proofs.Common.{◌≡◌, None, length}
 use Rattle.std.specs.List.{last_or}
 use Rattle.std.specs.Option.{option_map}
-use Rattle.proto_schema.specs.Words.{members}
+use Rattle.proto_schema.specs.FieldValues.{members}
 use Rattle.proto_wire.specs.Fields.{fields, fields_from}
 use Rattle.gribi_messages.proofs.instance.last_member_at.Given as goal
 

@@ -1,5 +1,5 @@
 use Rattle.std.proofs.Common.{◌≡◌, ◌++◌, length, map}
-use Rattle.proto_schema.specs.Words.{pieces}
+use Rattle.proto_schema.specs.FieldValues.{pieces}
 use Rattle.gribi_messages.specs.Response.{result_of}
 use Rattle.proto_wire.specs.Fields.{fields, fields_from}
 use Rattle.gribi_messages.proofs.read_response.results_of.Given as goal

@@ -1,5 +1,5 @@
 use Rattle.std.proofs.Common.{◌≡◌, ◌++◌, length, map}
-use Rattle.proto_schema.specs.Words.{pieces}
+use Rattle.proto_schema.specs.FieldValues.{pieces}
 use Rattle.gribi_messages.specs.Rows.{row_of}
 use Rattle.proto_wire.specs.Fields.{fields, fields_from}
 use Rattle.gribi_messages.proofs.rows.rows_of.Given as goal

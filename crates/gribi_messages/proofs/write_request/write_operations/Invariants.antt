@@ -1,6 +1,6 @@
 use Rattle.std.proofs.Common.{◌≡◌, ◌++◌, take}
 use Rattle.std.specs.List.{flat_map}
-use Rattle.gribi_messages.specs.Spelled.{operation_field}
+use Rattle.gribi_messages.specs.RequestEncoding.{operation_field}
 use Rattle.gribi_messages.proofs.write_request.write_operations.Given as goal
 
 abbrev pub invariant-loop-o : goal.invariant-loop-o

@@ -1,7 +1,7 @@
 use Rattle.std.proofs.Common.{◌≡◌, length}
 use Rattle.std.specs.Option.{option_copied}
 use Rattle.proto_wire.specs.Fields.{fields, fields_from}
-use Rattle.proto_schema.specs.Words.{pieces}
+use Rattle.proto_schema.specs.FieldValues.{pieces}
 use Rattle.grpc_heads.specs.Trailers.{only}
 use Rattle.grpc_heads.proofs.Codes.{only_after}
 use Rattle.grpc_heads.proofs.reading.only_detail.Given as goal

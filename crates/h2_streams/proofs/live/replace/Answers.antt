@@ -7,7 +7,7 @@ use Rattle.h2_streams.proofs.live.replace.Goals as goal
 
 pub loop-stream-preserved : goal.loop-stream-preserved
 loop-stream-preserved c =
-    let d : Stream = record { id = 0; is_ended_here = false; is_ended_there = false; has_head = false; room = 0; receive = 0 } in
+    let d : Stream = record { id = 0; is_closed_local = false; is_closed_remote = false; has_head = false; room = 0; receive = 0 } in
     let x : Stream = get_or c.loop-stream.live c.loop-stream.stream-index d in
     let lt : c.loop-stream.stream-index < length c.loop-stream.live = omega arith in
     rw c.chosen.ensures (

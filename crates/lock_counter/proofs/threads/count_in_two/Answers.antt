@@ -3,7 +3,7 @@ use denote.Param.Send.{sendable}
 use Rattle.table_lock.specs.declared.view.Item.{Item}
 use Rattle.table_lock.specs.Passes.{item}
 use Rattle.lock_counter.specs.Totals.{added}
-use Rattle.lock_counter.proofs.Crosses.{counter_pass, counter_lock}
+use Rattle.lock_counter.proofs.SendSync.{counter_pass, counter_lock}
 use Rattle.lock_counter.proofs.Counts.{counted_by_two, opened_sum, added_more}
 use Rattle.lock_counter.proofs.threads.count_in_two.Goals as goal
 

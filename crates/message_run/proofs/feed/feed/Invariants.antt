@@ -4,8 +4,8 @@ use Rattle.message_run.proofs.feed.feed.Given as goal
 
 abbrev pub invariant-loop-size : goal.invariant-loop-size
 invariant-loop-size g l = record {
-  feeding : IsFeeding (g.A.Answerer.fate l.fn.server) (g.A.Answerer.stands l.fn.server) (g.A.Answerer.stands l.server) l.start l.held.items l.at l.fn.out.items l.out.items;
-  fate : g.A.Answerer.fate l.server ≡ g.A.Answerer.fate l.fn.server;
+  feeding : IsFeeding (g.A.MessageHandler.response l.fn.server) (g.A.MessageHandler.stands l.fn.server) (g.A.MessageHandler.stands l.server) l.start l.held.items l.at l.fn.out.items l.out.items;
+  response : g.A.MessageHandler.response l.server ≡ g.A.MessageHandler.response l.fn.server;
 }
 
 abbrev pub decreases-loop-size : goal.decreases-loop-size

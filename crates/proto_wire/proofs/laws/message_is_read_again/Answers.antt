@@ -1,5 +1,5 @@
-use Rattle.proto_wire.proofs.Again.{fields_from-spelled}
+use Rattle.proto_wire.proofs.Again.{fields_from-encoded_fields}
 use Rattle.proto_wire.proofs.laws.message_is_read_again.Goals as goal
 
 pub returns : goal.returns
-returns c = fields_from-spelled
+returns c = fields_from-encoded_fields

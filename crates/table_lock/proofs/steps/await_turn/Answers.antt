@@ -2,7 +2,7 @@ use Rattle.std.proofs.Common.{rules, arith, ◌∙◌, ap}
 use Rattle.table_lock.proofs.Keeps.{looks}
 use mathlib.Core.Option.{none}
 use Rattle.atomic_table.specs.Table.{step}
-use Rattle.table_lock.proofs.Told.{took}
+use Rattle.table_lock.proofs.SeatFacts.{took}
 use Rattle.table_lock.proofs.steps.await_turn.Goals as goal
 
 pub load-served-requires : goal.load-served-requires

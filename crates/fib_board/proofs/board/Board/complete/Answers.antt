@@ -1,6 +1,6 @@
 use Rattle.std.proofs.Common.{◌≡◌, ◌++◌, ap, ◌∙◌, w64, to_z, of_z}
 use Rattle.std.proofs.lemmas.Int.{to_z-of_z}
-use Rattle.table_model.specs.Ledger.{due_for}
+use Rattle.table_model.specs.BoardState.{due_for}
 use Rattle.fib_board.specs.Steps.{fib_by, results_with}
 use Rattle.fib_board.proofs.Finding.{some_at}
 use Rattle.fib_board.proofs.board.Board.complete.Goals as goal

@@ -8,7 +8,7 @@ invariant_of-self c =
     let held = c.self.invariant.1 in (
       c.self.invariant.0,
       record {
-        ascending = rw c.disown.ensures.items (ascends_map (unwanted c.args.session) (λ slot. refl) c.self.inside.jobs.items ∙ held.ascending);
+        ascending = rw c.drop_owner.ensures.items (ascends_map (unwanted c.args.session) (λ tracked. refl) c.self.inside.jobs.items ∙ held.ascending);
         job_places = omega (arith, held.job_places);
         row_places = omega (arith, held.row_places);
         entry_places = omega (arith, held.entry_places);

@@ -1,5 +1,5 @@
 use Rattle.std.proofs.Common.{refl}
-use Rattle.table_model.specs.Ledger.{due_for}
+use Rattle.table_model.specs.BoardState.{due_for}
 use Rattle.fib_board.proofs.board.Board.new.Goals as goal
 
 pub returns-clause-due : goal.returns-clause-due

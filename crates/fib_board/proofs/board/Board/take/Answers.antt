@@ -5,8 +5,8 @@ use Rattle.fib_board.proofs.Finding.{next_none, next_found, next_waits}
 use Rattle.fib_board.proofs.board.Board.take.Goals as goal
 
 pub start-requires-clause-waits : goal.start-requires-clause-waits
-start-requires-clause-waits c slot is =
-    next_waits c.self.inside.workers c.self.inside.jobs.items c.args.worker c.in-Some.at slot (sym (rw c.deref.ensures.value at c.next_place.ensures) ∙ c.in-Some.is) (rw (← c.self.view_is) at is)
+start-requires-clause-waits c tracked is =
+    next_waits c.self.inside.workers c.self.inside.jobs.items c.args.worker c.in-Some.at tracked (sym (rw c.deref.ensures.value at c.next_place.ensures) ∙ c.in-Some.is) (rw (← c.self.view_is) at is)
 
 pub returns-in-None-clause-given : goal.returns-in-None-clause-given
 returns-in-None-clause-given c =

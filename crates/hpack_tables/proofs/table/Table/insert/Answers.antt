@@ -2,7 +2,7 @@ use Rattle.std.proofs.Common.{◌≡◌, ◌<◌, ℕ, List, ◌∷◌, ap, ◌�
 use Rattle.std.proofs.lemmas.Bool.{lt-leb}
 use Rattle.hpack_tables.specs.declared.field.Field.{Field}
 use Rattle.hpack_tables.specs.Entries.{Entries}
-use Rattle.hpack_tables.specs.Room.{size_of, fitting}
+use Rattle.hpack_tables.specs.EntrySizes.{size_of, fitting}
 use Rattle.hpack_tables.proofs.Rooms.{fitting_none}
 use Rattle.hpack_tables.proofs.table.Table.insert.Goals as goal
 

@@ -15,5 +15,5 @@ returns-clause-stands c recorded stands =
     let now = rw (← c.self.view_is) at stands in
     leaves _ recorded now c.args.session here c.clear_if.new.table c.leave.new.self
     (c.clear_if.ensures ∙ ap (λ b. cond b [] c.self.inside.table.entries) c.purges-purges.ensures)
-    (c.leave.ensures (events recorded) now.keeps.poll)
-    c.leave-2.new.self (c.leave-2.ensures.stands (events recorded) now.keeps.seats)
+    (c.leave.ensures (events recorded) now.keeps.election_state)
+    c.leave-2.new.self (c.leave-2.ensures.stands (events recorded) now.keeps.session_records)

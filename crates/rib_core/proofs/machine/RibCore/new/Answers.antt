@@ -8,5 +8,5 @@ pub returns-clause-stands : goal.returns-clause-stands
 unfolding events rib is_halted
 returns-clause-stands c = record {
   legal = tt;
-  keeps = record { count = refl; table = c.new.ensures.entries; poll = c.new-2.ensures; seats = c.new-3.ensures.stands; running = refl };
+  keeps = record { count = refl; table = c.new.ensures.entries; election_state = c.new-2.ensures; session_records = c.new-3.ensures.stands; running = refl };
 }

@@ -12,4 +12,4 @@ pub returns-clause-stands : goal.returns-clause-stands
 returns-clause-stands c recorded stands =
     let here = sym c.is_entered.ensures.found ∙ c.if-not-is_entered.false in
     let now = rw (← c.self.view_is) at stands in
-    rw c.reply_to_set.ensures (set_ends _ recorded now c.args.session c.args.asked here _ _ (c.set.ensures.stands (events recorded) now.keeps.seats))
+    rw c.reply_to_set.ensures (set_ends _ recorded now c.args.session c.args.asked here _ _ (c.set.ensures.stands (events recorded) now.keeps.session_records))

@@ -1,5 +1,0 @@
-use Rattle.addr_text.proofs.Scanning.{parts_start}
-use Rattle.addr_text.proofs.scan.cut.Goals as goal
-
-pub places-init : goal.places-init
-places-init c = parts_start c.args.separator c.args.text.now

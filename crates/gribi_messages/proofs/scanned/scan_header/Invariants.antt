@@ -1,0 +1,10 @@
+use Rattle.std.proofs.Common.{length}
+use Rattle.proto_wire.specs.Fields.{fields, fields_from}
+use Rattle.gribi_messages.proofs.Scanning.{AreAsksSoFar}
+use Rattle.gribi_messages.proofs.scanned.scan_header.Given as goal
+
+abbrev pub invariant-loop-field : goal.invariant-loop-field
+invariant-loop-field l = AreAsksSoFar l.params_number l.election_number l.params l.election (fields_from l.reader.0 l.reader.1).fields (fields l.bytes).fields
+
+abbrev pub decreases-loop-field : goal.decreases-loop-field
+decreases-loop-field l = length l.reader.1

@@ -1,0 +1,10 @@
+//! The smallest calls.
+use h2_conn::PrefaceOnly;
+
+/// Calls on a connection that takes no frame: nothing is asked, and nothing can be answered.
+#[derive(Drop)]
+pub struct PrefaceOnlyCalls {
+    conn: PrefaceOnly,
+}
+
+mod calls_impl;

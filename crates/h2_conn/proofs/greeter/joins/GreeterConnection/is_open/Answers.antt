@@ -1,5 +1,0 @@
-use Rattle.h2_conn.proofs.Asked.{not_open}
-use Rattle.h2_conn.proofs.greeter.joins.GreeterConnection.is_open.Goals as goal
-
-pub returns : goal.returns
-returns c = λ d h. not_open c.args.self.now d h c.args._stream

@@ -1,5 +1,0 @@
-use Rattle.h2_exchange.proofs.Computed.{spelled_calls}
-use Rattle.h2_exchange.proofs.examples.calls_are_spelled.Goals as goal
-
-pub returns : goal.returns
-returns c = spelled_calls

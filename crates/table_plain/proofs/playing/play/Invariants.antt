@@ -1,8 +1,0 @@
-use Rattle.std.proofs.Common.{◌≡◌, []}
-use Rattle.std.specs.List.{fold}
-use Rattle.table_model.specs.Played.{answered}
-use Rattle.table_plain.proofs.playing.play.Given as goal
-
--- the history of the commands so far
-abbrev pub invariant-loop-command : goal.invariant-loop-command
-invariant-loop-command l = l.events.items ≡ fold (answered l.config) [] l.yielded

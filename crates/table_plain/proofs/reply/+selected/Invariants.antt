@@ -1,5 +1,0 @@
-use Rattle.std.proofs.Common.{length}
-use Rattle.table_plain.proofs.reply.+selected.Given as goal
-
-abbrev pub decreases-selected : goal.decreases-selected
-decreases-selected l = length l.table.now

@@ -1,5 +1,0 @@
-use Rattle.std.proofs.Common.{length}
-use Rattle.table_plain.proofs.same.+same_labels.Given as goal
-
-abbrev pub decreases-same_labels : goal.decreases-same_labels
-decreases-same_labels l = length l.a.now

@@ -1,5 +1,0 @@
-use Rattle.std.proofs.Common.{length}
-use Rattle.table_plain.proofs.sessions.+params_of.Given as goal
-
-abbrev pub decreases-params_of : goal.decreases-params_of
-decreases-params_of l = length l.past.now
