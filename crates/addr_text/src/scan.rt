@@ -3,7 +3,8 @@ ghost use Rattle.addr_text.specs.AddressGrammar as spec;
 
 // What stands before and after the first separator.
 pub fn split_once(text: &[u8], separator: u8) -> Option<(&[u8], &[u8])>
-    ensures parts { MatchOption result (spec.parts separator text.now ≡ text.now ∷ []) (λ halves. spec.parts separator text.now ≡ halves.0.now ∷ spec.parts separator halves.1.now) }
+    ensures parts { MatchOption result (spec.parts separator text.now ≡ text.now ∷ [])
+        (λ halves. spec.parts separator text.now ≡ halves.0.now ∷ spec.parts separator halves.1.now) }
     ensures shorter { MatchOption result ⊤ (λ halves. length halves.1.now < length text.now) }
 {
     'places: for place in 0..text.len() {

@@ -101,7 +101,10 @@ abbrev pub is_bad_member : ℕ × Option ℕ → Bool
 is_bad_member member = member.0 == 0 || is_none (weight_of member.1)
 
 unfoldable pub is_bad_group : RawGroup → Bool
-is_bad_group group = nat_lt 256 (length group.members) || list_any is_bad_member group.members || holds_twice (λ other member. other.0 == member.0) group.members
+is_bad_group group =
+    nat_lt 256 (length group.members)
+    || list_any is_bad_member group.members
+    || holds_twice (λ other member. other.0 == member.0) group.members
 
 abbrev pub member_of : ℕ × Option ℕ → Member
 member_of member = record { hop = member.0; weight = unwrap_or (weight_of member.1) 1 }

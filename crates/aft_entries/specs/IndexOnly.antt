@@ -16,4 +16,5 @@ index_only_payload = record { ip = None; mac = None; interface = None; subinterf
 
 -- an operation on it
 abbrev pub index_only_operation : ℕ → List ℕ → Option Op → ℕ → Option ℕ → RawOperation
-index_only_operation id instance op index election = record { id = id; instance = instance; op = op; entry = Some (raw.Hop index index_only_raw); election = election }
+index_only_operation id instance op index election =
+    record { id = id; instance = instance; op = op; entry = Some (raw.Hop index index_only_raw); election = election }

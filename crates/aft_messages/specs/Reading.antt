@@ -89,11 +89,21 @@ mpls_of n bytes = route_of (field_of n field.LabelLeavesNextHopGroup) (field_of 
 
 -- what the message of an entry of this kind says
 abbrev pub entry_of : Numbers → Kind → List ℕ → RawEntry
-entry_of n kind.Hop bytes = entry.Hop (number_at (field_of n field.NextHopKeyIndex) bytes) (hop_of n (embedded_at (field_of n field.NextHopKeyNextHop) bytes))
-entry_of n kind.Group bytes = entry.Group (number_at (field_of n field.NextHopGroupKeyId) bytes) (group_of n (embedded_at (field_of n field.NextHopGroupKeyNextHopGroup) bytes))
-entry_of n kind.V4 bytes = entry.V4 (name_at (field_of n field.Ipv4EntryKeyPrefix) bytes) (ipv4_of n (embedded_at (field_of n field.Ipv4EntryKeyEntry) bytes))
-entry_of n kind.V6 bytes = entry.V6 (name_at (field_of n field.Ipv6EntryKeyPrefix) bytes) (ipv6_of n (embedded_at (field_of n field.Ipv6EntryKeyEntry) bytes))
-entry_of n kind.Label bytes = entry.Label (last_number_at (field_of n field.LabelEntryKeyLabelUint64) bytes) (mpls_of n (embedded_at (field_of n field.LabelEntryKeyLabelEntry) bytes))
+entry_of n kind.Hop bytes =
+    entry.Hop (number_at (field_of n field.NextHopKeyIndex) bytes)
+    (hop_of n (embedded_at (field_of n field.NextHopKeyNextHop) bytes))
+entry_of n kind.Group bytes =
+    entry.Group (number_at (field_of n field.NextHopGroupKeyId) bytes)
+    (group_of n (embedded_at (field_of n field.NextHopGroupKeyNextHopGroup) bytes))
+entry_of n kind.V4 bytes =
+    entry.V4 (name_at (field_of n field.Ipv4EntryKeyPrefix) bytes)
+    (ipv4_of n (embedded_at (field_of n field.Ipv4EntryKeyEntry) bytes))
+entry_of n kind.V6 bytes =
+    entry.V6 (name_at (field_of n field.Ipv6EntryKeyPrefix) bytes)
+    (ipv6_of n (embedded_at (field_of n field.Ipv6EntryKeyEntry) bytes))
+entry_of n kind.Label bytes =
+    entry.Label (last_number_at (field_of n field.LabelEntryKeyLabelUint64) bytes)
+    (mpls_of n (embedded_at (field_of n field.LabelEntryKeyLabelEntry) bytes))
 
 -- the message of an entry of this kind
 abbrev pub key_message : Kind → MessageKind

@@ -89,10 +89,20 @@ mpls_bytes n route = route_bytes (field_of n field.LabelLeavesNextHopGroup) (fie
 
 -- The message of an entry; its payload is always written. Of MAC and policy entries nothing is kept.
 abbrev pub raw_bytes : Numbers → RawEntry → List ℕ
-raw_bytes n (entry.Hop index hop) = nonzero_uint_field (field_of n field.NextHopKeyIndex) index ++ bytes_field (field_of n field.NextHopKeyNextHop) (hop_bytes n hop)
-raw_bytes n (entry.Group id group) = nonzero_uint_field (field_of n field.NextHopGroupKeyId) id ++ bytes_field (field_of n field.NextHopGroupKeyNextHopGroup) (group_bytes n group)
-raw_bytes n (entry.V4 prefix route) = nonempty_field (field_of n field.Ipv4EntryKeyPrefix) prefix ++ bytes_field (field_of n field.Ipv4EntryKeyEntry) (ipv4_bytes n route)
-raw_bytes n (entry.V6 prefix route) = nonempty_field (field_of n field.Ipv6EntryKeyPrefix) prefix ++ bytes_field (field_of n field.Ipv6EntryKeyEntry) (ipv6_bytes n route)
-raw_bytes n (entry.Label label route) = label_field (field_of n field.LabelEntryKeyLabelUint64) label ++ bytes_field (field_of n field.LabelEntryKeyLabelEntry) (mpls_bytes n route)
+raw_bytes n (entry.Hop index hop) =
+    nonzero_uint_field (field_of n field.NextHopKeyIndex) index
+    ++ bytes_field (field_of n field.NextHopKeyNextHop) (hop_bytes n hop)
+raw_bytes n (entry.Group id group) =
+    nonzero_uint_field (field_of n field.NextHopGroupKeyId) id
+    ++ bytes_field (field_of n field.NextHopGroupKeyNextHopGroup) (group_bytes n group)
+raw_bytes n (entry.V4 prefix route) =
+    nonempty_field (field_of n field.Ipv4EntryKeyPrefix) prefix
+    ++ bytes_field (field_of n field.Ipv4EntryKeyEntry) (ipv4_bytes n route)
+raw_bytes n (entry.V6 prefix route) =
+    nonempty_field (field_of n field.Ipv6EntryKeyPrefix) prefix
+    ++ bytes_field (field_of n field.Ipv6EntryKeyEntry) (ipv6_bytes n route)
+raw_bytes n (entry.Label label route) =
+    label_field (field_of n field.LabelEntryKeyLabelUint64) label
+    ++ bytes_field (field_of n field.LabelEntryKeyLabelEntry) (mpls_bytes n route)
 raw_bytes n entry.Mac = []
 raw_bytes n entry.Policy = []

@@ -4,7 +4,7 @@ ghost use Rattle.proto_wire.specs.Written.{varint, bytes_field};
 ghost use Rattle.aft_messages.specs.Writing.{nonzero_uint_field, nonempty_field, uint_value_field, string_value_field, label_field};
 
 use crate::sizes::nonzero_uint_size;
-use proto_wire::{write_bytes, write_uint, write_varint};
+use proto_wire::{roll_back, write_bytes, write_uint, write_varint};
 use std::alloc::AllocError;
 
 /// Appends a field of a number, and nothing where the number is 0. Without memory `out` is unchanged.
@@ -34,8 +34,7 @@ pub fn write_two_uints(
     let before = out.len();
     write_nonzero_uint(number, value, out)?;
     if write_nonzero_uint(next_number, next_value, out).is_err() {
-        out.truncate(before);
-        return Err(AllocError);
+        return Err(roll_back(out, before));
     }
     Ok(())
 }
@@ -48,8 +47,7 @@ pub fn write_length_prefix(number: u32, size: usize, out: &mut Vec<u8>) -> Resul
     let before = out.len();
     write_varint(u64::from(number) * 8 + 2, out)?;
     if write_varint(size as u64, out).is_err() {
-        out.truncate(before);
-        return Err(AllocError);
+        return Err(roll_back(out, before));
     }
     Ok(())
 }
@@ -123,8 +121,7 @@ fn write_wrapped_number(number: u32, value: u64, out: &mut Vec<u8>) -> Result<()
     let before = out.len();
     write_length_prefix(number, nonzero_uint_size(1, value), out)?;
     if write_nonzero_uint(1, value, out).is_err() {
-        out.truncate(before);
-        return Err(AllocError);
+        return Err(roll_back(out, before));
     }
     Ok(())
 }
@@ -151,8 +148,7 @@ fn write_wrapped_text(number: u32, text: &[u8], out: &mut Vec<u8>) -> Result<(),
     let before = out.len();
     write_nonempty_text(1, text, out)?;
     if write_length_delimited(number, before, out).is_err() {
-        out.truncate(before);
-        return Err(AllocError);
+        return Err(roll_back(out, before));
     }
     Ok(())
 }

@@ -20,6 +20,7 @@ use addr_text::{
 use aft_entries::{
     Entry, GroupPayload, HopPayload, Instances, KeyName, Member, Name, Payload, RoutePayload,
 };
+use proto_wire::roll_back;
 use schema_numbers::{FieldName, Numbering};
 use std::alloc::{AllocError, Global};
 
@@ -67,8 +68,7 @@ fn write_labels(n: &Numbering, labels: &[u32], out: &mut Vec<u8>) -> Result<(), 
     let before = out.len();
     for label in labels {
         if write_pushed_label(n, Some(u64::from(*label)), out).is_err() {
-            out.truncate(before);
-            return Err(AllocError);
+            return Err(roll_back(out, before));
         }
     }
     Ok(())
@@ -98,8 +98,7 @@ fn write_hop(
     if write_labels(n, hop.push.as_slice(), out).is_err()
         || write_length_delimited(n.field(FieldName::NextHopKeyNextHop), before, out).is_err()
     {
-        out.truncate(before);
-        return Err(AllocError);
+        return Err(roll_back(out, before));
     }
     Ok(())
 }
@@ -118,8 +117,7 @@ fn write_hop_entry(
     let before = out.len();
     write_nonzero_uint(n.field(FieldName::NextHopKeyIndex), index, out)?;
     if write_hop(alloc, n, hop, out).is_err() {
-        out.truncate(before);
-        return Err(AllocError);
+        return Err(roll_back(out, before));
     }
     Ok(())
 }
@@ -135,8 +133,7 @@ fn write_members(n: &Numbering, members: &[Member], out: &mut Vec<u8>) -> Result
         has_64_bits(Some(member.hop));
         has_64_bits(weight);
         if write_member(n, member.hop, weight, out).is_err() {
-            out.truncate(before);
-            return Err(AllocError);
+            return Err(roll_back(out, before));
         }
     }
     Ok(())
@@ -144,7 +141,8 @@ fn write_members(n: &Numbering, members: &[Member], out: &mut Vec<u8>) -> Result
 
 #[tactic(auto, unfolding(crate::specs::Writing::group_bytes, crate::specs::Printing::raw_group))]
 fn write_group(n: &Numbering, group: &GroupPayload, out: &mut Vec<u8>) -> Result<(), AllocError>
-    ensures ok { OnOk result (out.new.items ≡ out.old.items ++ bytes_field (field_of n.now field.NextHopGroupKeyNextHopGroup) (group_bytes n.now (raw_group group.now))) }
+    ensures ok { OnOk result (out.new.items ≡ out.old.items
+        ++ bytes_field (field_of n.now field.NextHopGroupKeyNextHopGroup) (group_bytes n.now (raw_group group.now))) }
     ensures err { OnErr result (out.new.items ≡ out.old.items) }
     ensures sent { OnOk result (IsGroup (raw_group group.now)) }
 {
@@ -156,8 +154,7 @@ fn write_group(n: &Numbering, group: &GroupPayload, out: &mut Vec<u8>) -> Result
     if write_uint_value(backup, group.backup, out).is_err()
         || write_length_delimited(outer, before, out).is_err()
     {
-        out.truncate(before);
-        return Err(AllocError);
+        return Err(roll_back(out, before));
     }
     Ok(())
 }
@@ -175,8 +172,7 @@ fn write_group_entry(
     let before = out.len();
     write_nonzero_uint(n.field(FieldName::NextHopGroupKeyId), id, out)?;
     if write_group(n, group, out).is_err() {
-        out.truncate(before);
-        return Err(AllocError);
+        return Err(roll_back(out, before));
     }
     Ok(())
 }

@@ -13,6 +13,7 @@ use crate::fields::{
     write_nonzero_uint, write_string_value, write_uint_value,
 };
 use aft_entries::{Name, RawEntry, RawGroup, RawHop};
+use proto_wire::roll_back;
 use schema_numbers::{FieldName, Numbering};
 use std::alloc::AllocError;
 
@@ -39,8 +40,7 @@ fn write_addresses(
     let before = out.len();
     write_string_value(n.field(FieldName::NextHopIpAddress), ip, out)?;
     if write_string_value(n.field(FieldName::NextHopMacAddress), mac, out).is_err() {
-        out.truncate(before);
-        return Err(AllocError);
+        return Err(roll_back(out, before));
     }
     Ok(())
 }
@@ -62,8 +62,7 @@ fn write_interface(
     if write_uint_value(inner, subinterface, out).is_err()
         || write_nonempty_length_delimited(outer, before, out).is_err()
     {
-        out.truncate(before);
-        return Err(AllocError);
+        return Err(roll_back(out, before));
     }
     Ok(())
 }
@@ -85,8 +84,7 @@ fn write_tunnel(
     if write_string_value(inner, target, out).is_err()
         || write_nonempty_length_delimited(outer, before, out).is_err()
     {
-        out.truncate(before);
-        return Err(AllocError);
+        return Err(roll_back(out, before));
     }
     Ok(())
 }
@@ -110,8 +108,7 @@ pub fn write_hop_texts(
     if write_interface(n, interface.0, interface.1, out).is_err()
         || write_tunnel(n, tunnel.0, tunnel.1, out).is_err()
     {
-        out.truncate(before);
-        return Err(AllocError);
+        return Err(roll_back(out, before));
     }
     Ok(())
 }
@@ -133,8 +130,7 @@ pub fn write_pushed_label(
         out,
     ).is_err()
     {
-        out.truncate(before);
-        return Err(AllocError);
+        return Err(roll_back(out, before));
     }
     Ok(())
 }
@@ -146,8 +142,7 @@ fn write_labels(n: &Numbering, labels: &[Option<u64>], out: &mut Vec<u8>) -> Res
     let before = out.len();
     for label in labels {
         if write_pushed_label(n, *label, out).is_err() {
-            out.truncate(before);
-            return Err(AllocError);
+            return Err(roll_back(out, before));
         }
     }
     Ok(())
@@ -166,22 +161,21 @@ fn write_hop(n: &Numbering, hop: &RawHop, out: &mut Vec<u8>) -> Result<(), Alloc
     if write_labels(n, hop.push.as_slice(), out).is_err()
         || write_length_delimited(n.field(FieldName::NextHopKeyNextHop), before, out).is_err()
     {
-        out.truncate(before);
-        return Err(AllocError);
+        return Err(roll_back(out, before));
     }
     Ok(())
 }
 
 // The leaves of a group's next hop, where there is a weight.
 fn write_weight(n: &Numbering, weight: Option<u64>, out: &mut Vec<u8>) -> Result<(), AllocError>
-    ensures ok { OnOk result (out.new.items ≡ out.old.items ++ nonempty_field (field_of n.now field.MemberKeyNextHop) (uint_value_field (field_of n.now field.MemberLeavesWeight) weight)) }
+    ensures ok { OnOk result (out.new.items ≡ out.old.items
+        ++ nonempty_field (field_of n.now field.MemberKeyNextHop) (uint_value_field (field_of n.now field.MemberLeavesWeight) weight)) }
     ensures err { OnErr result (out.new.items ≡ out.old.items) }
 {
     let before = out.len();
     write_uint_value(n.field(FieldName::MemberLeavesWeight), weight, out)?;
     if write_nonempty_length_delimited(n.field(FieldName::MemberKeyNextHop), before, out).is_err() {
-        out.truncate(before);
-        return Err(AllocError);
+        return Err(roll_back(out, before));
     }
     Ok(())
 }
@@ -201,8 +195,7 @@ pub fn write_member(
     if write_weight(n, weight, out).is_err()
         || write_length_delimited(n.field(FieldName::NextHopGroupNextHop), before, out).is_err()
     {
-        out.truncate(before);
-        return Err(AllocError);
+        return Err(roll_back(out, before));
     }
     Ok(())
 }
@@ -219,8 +212,7 @@ fn write_members(
     for member in members {
         let (index, weight) = *member;
         if write_member(n, index, weight, out).is_err() {
-            out.truncate(before);
-            return Err(AllocError);
+            return Err(roll_back(out, before));
         }
     }
     Ok(())
@@ -238,31 +230,58 @@ fn write_group(n: &Numbering, group: &RawGroup, out: &mut Vec<u8>) -> Result<(),
     if write_uint_value(backup, group.backup, out).is_err()
         || write_length_delimited(outer, before, out).is_err()
     {
-        out.truncate(before);
-        return Err(AllocError);
+        return Err(roll_back(out, before));
     }
     Ok(())
 }
 
-// The payload of a route, whose fields have these numbers, as an embedded message.
+// The numbers of the fields of one kind of route: its payload, and in that the group and the group's network instance.
+#[derive(Clone, Copy)]
+struct RouteFields {
+    payload: u32,
+    group: u32,
+    instance: u32,
+}
+
+// The payload of a route as an embedded message.
 #[tactic(auto, unfolding(crate::specs::Writing::route_bytes))]
 fn write_route(
-    outer: u32,
-    numbers: (u32, u32),
+    fields: RouteFields,
     group: Option<u64>,
     instance: Option<&[u8]>,
     out: &mut Vec<u8>,
 ) -> Result<(), AllocError>
-    ensures ok { OnOk result (out.new.items ≡ out.old.items ++ bytes_field outer (route_bytes numbers.0 numbers.1 (record { group = group; instance = option_copied instance.entry }))) }
+    ensures ok { OnOk result (out.new.items ≡ out.old.items ++ bytes_field fields.payload
+        (route_bytes fields.group fields.instance (record { group = group; instance = option_copied instance.entry }))) }
     ensures err { OnErr result (out.new.items ≡ out.old.items) }
 {
     let before = out.len();
-    write_uint_value(numbers.0, group, out)?;
-    if write_string_value(numbers.1, instance, out).is_err()
-        || write_length_delimited(outer, before, out).is_err()
+    write_uint_value(fields.group, group, out)?;
+    if write_string_value(fields.instance, instance, out).is_err()
+        || write_length_delimited(fields.payload, before, out).is_err()
     {
-        out.truncate(before);
-        return Err(AllocError);
+        return Err(roll_back(out, before));
+    }
+    Ok(())
+}
+
+// The prefix of a route, in the field `key`, and its payload.
+fn write_prefix_route(
+    key: u32,
+    prefix: &[u8],
+    fields: RouteFields,
+    group: Option<u64>,
+    instance: Option<&[u8]>,
+    out: &mut Vec<u8>,
+) -> Result<(), AllocError>
+    ensures ok { OnOk result (out.new.items ≡ out.old.items ++ nonempty_field key prefix.now ++ bytes_field fields.payload
+        (route_bytes fields.group fields.instance (record { group = group; instance = option_copied instance.entry }))) }
+    ensures err { OnErr result (out.new.items ≡ out.old.items) }
+{
+    let before = out.len();
+    write_nonempty_text(key, prefix, out)?;
+    if write_route(fields, group, instance, out).is_err() {
+        return Err(roll_back(out, before));
     }
     Ok(())
 }
@@ -274,19 +293,17 @@ pub fn write_ipv4(
     instance: Option<&[u8]>,
     out: &mut Vec<u8>,
 ) -> Result<(), AllocError>
-    ensures ok { OnOk result (out.new.items ≡ out.old.items ++ raw_bytes n.now (raw_entry.V4 prefix.now (record { group = group; instance = option_copied instance.entry }))) }
+    ensures ok { OnOk result (out.new.items ≡ out.old.items
+        ++ raw_bytes n.now (raw_entry.V4 prefix.now (record { group = group; instance = option_copied instance.entry }))) }
     ensures err { OnErr result (out.new.items ≡ out.old.items) }
 {
-    let before = out.len();
-    let outer = n.field(FieldName::Ipv4EntryKeyEntry);
-    let inner = n.field(FieldName::Ipv4LeavesNextHopGroup);
-    let named = n.field(FieldName::Ipv4LeavesNextHopGroupNetworkInstance);
-    write_nonempty_text(n.field(FieldName::Ipv4EntryKeyPrefix), prefix, out)?;
-    if write_route(outer, (inner, named), group, instance, out).is_err() {
-        out.truncate(before);
-        return Err(AllocError);
-    }
-    Ok(())
+    let fields = RouteFields {
+        payload: n.field(FieldName::Ipv4EntryKeyEntry),
+        group: n.field(FieldName::Ipv4LeavesNextHopGroup),
+        instance: n.field(FieldName::Ipv4LeavesNextHopGroupNetworkInstance),
+    };
+    let key = n.field(FieldName::Ipv4EntryKeyPrefix);
+    write_prefix_route(key, prefix, fields, group, instance, out)
 }
 
 pub fn write_ipv6(
@@ -296,19 +313,17 @@ pub fn write_ipv6(
     instance: Option<&[u8]>,
     out: &mut Vec<u8>,
 ) -> Result<(), AllocError>
-    ensures ok { OnOk result (out.new.items ≡ out.old.items ++ raw_bytes n.now (raw_entry.V6 prefix.now (record { group = group; instance = option_copied instance.entry }))) }
+    ensures ok { OnOk result (out.new.items ≡ out.old.items
+        ++ raw_bytes n.now (raw_entry.V6 prefix.now (record { group = group; instance = option_copied instance.entry }))) }
     ensures err { OnErr result (out.new.items ≡ out.old.items) }
 {
-    let before = out.len();
-    let outer = n.field(FieldName::Ipv6EntryKeyEntry);
-    let inner = n.field(FieldName::Ipv6LeavesNextHopGroup);
-    let named = n.field(FieldName::Ipv6LeavesNextHopGroupNetworkInstance);
-    write_nonempty_text(n.field(FieldName::Ipv6EntryKeyPrefix), prefix, out)?;
-    if write_route(outer, (inner, named), group, instance, out).is_err() {
-        out.truncate(before);
-        return Err(AllocError);
-    }
-    Ok(())
+    let fields = RouteFields {
+        payload: n.field(FieldName::Ipv6EntryKeyEntry),
+        group: n.field(FieldName::Ipv6LeavesNextHopGroup),
+        instance: n.field(FieldName::Ipv6LeavesNextHopGroupNetworkInstance),
+    };
+    let key = n.field(FieldName::Ipv6EntryKeyPrefix);
+    write_prefix_route(key, prefix, fields, group, instance, out)
 }
 
 pub fn write_mpls(
@@ -318,17 +333,19 @@ pub fn write_mpls(
     instance: Option<&[u8]>,
     out: &mut Vec<u8>,
 ) -> Result<(), AllocError>
-    ensures ok { OnOk result (out.new.items ≡ out.old.items ++ raw_bytes n.now (raw_entry.Label label (record { group = group; instance = option_copied instance.entry }))) }
+    ensures ok { OnOk result (out.new.items ≡ out.old.items
+        ++ raw_bytes n.now (raw_entry.Label label (record { group = group; instance = option_copied instance.entry }))) }
     ensures err { OnErr result (out.new.items ≡ out.old.items) }
 {
     let before = out.len();
-    let outer = n.field(FieldName::LabelEntryKeyLabelEntry);
-    let inner = n.field(FieldName::LabelLeavesNextHopGroup);
-    let named = n.field(FieldName::LabelLeavesNextHopGroupNetworkInstance);
+    let fields = RouteFields {
+        payload: n.field(FieldName::LabelEntryKeyLabelEntry),
+        group: n.field(FieldName::LabelLeavesNextHopGroup),
+        instance: n.field(FieldName::LabelLeavesNextHopGroupNetworkInstance),
+    };
     write_label(n.field(FieldName::LabelEntryKeyLabelUint64), label, out)?;
-    if write_route(outer, (inner, named), group, instance, out).is_err() {
-        out.truncate(before);
-        return Err(AllocError);
+    if write_route(fields, group, instance, out).is_err() {
+        return Err(roll_back(out, before));
     }
     Ok(())
 }
@@ -345,8 +362,7 @@ fn write_raw_hop(
     let before = out.len();
     write_nonzero_uint(n.field(FieldName::NextHopKeyIndex), index, out)?;
     if write_hop(n, hop, out).is_err() {
-        out.truncate(before);
-        return Err(AllocError);
+        return Err(roll_back(out, before));
     }
     Ok(())
 }
@@ -363,8 +379,7 @@ fn write_raw_group(
     let before = out.len();
     write_nonzero_uint(n.field(FieldName::NextHopGroupKeyId), id, out)?;
     if write_group(n, group, out).is_err() {
-        out.truncate(before);
-        return Err(AllocError);
+        return Err(roll_back(out, before));
     }
     Ok(())
 }

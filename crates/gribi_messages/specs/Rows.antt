@@ -70,7 +70,8 @@ row_bytes n names row =
     nonempty_field (field_of n field.AftEntryNetworkInstance) (slice_index_or names row.entry.key.instance [])
     ++ row_entry_field n names row
     ++ nonzero_uint_field (field_of n field.AftEntryRibStatus) (value_of n value.EntryStatusProgrammed)
-    ++ nonzero_uint_field (field_of n field.AftEntryFibStatus) (if row.installed then value_of n value.EntryStatusProgrammed else value_of n value.EntryStatusNotProgrammed)
+    ++ nonzero_uint_field (field_of n field.AftEntryFibStatus)
+    (if row.installed then value_of n value.EntryStatusProgrammed else value_of n value.EntryStatusNotProgrammed)
 
 unfoldable pub row_field : Numbers → List (List ℕ) → Row → List ℕ
 row_field n names row = bytes_field (field_of n field.GetResponseEntry) (row_bytes n names row)

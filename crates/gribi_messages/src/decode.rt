@@ -76,7 +76,8 @@ pub fn election_of(
 
 // The kind of the entry that a member is, where its bytes are read.
 fn kind_of(n: &Numbering, number: u32) -> Option<Kind>
-    ensures { (bytes : List ℕ) → MatchOption result (member_entry n.now (number, bytes) ≡ unread_said n.now number) (λ kind. member_entry n.now (number, bytes) ≡ entry_said n.now kind bytes) }
+    ensures { (bytes : List ℕ) → MatchOption result (member_entry n.now (number, bytes) ≡ unread_said n.now number)
+        (λ kind. member_entry n.now (number, bytes) ≡ entry_said n.now kind bytes) }
 {
     if number == n.field(FieldName::AftOperationIpv4) {
         Some(Kind::V4)

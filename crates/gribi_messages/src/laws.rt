@@ -55,7 +55,8 @@ pub fn modify_request_is_read_again()
 /// A message of an answer to a Get that was written is read again, under every valid numbering: each row with its
 /// instance's name, its entry in the printed forms, and its statuses.
 pub fn get_response_is_read_again()
-    ensures { (n : Numbers) (names : List (List ℕ)) (rows : List Row) → IsValid n → All (IsEncodableRow names) rows → length (rows_bytes n names rows) < 2 ^ 64 →
+    ensures { (n : Numbers) (names : List (List ℕ)) (rows : List Row) → IsValid n → All (IsEncodableRow names) rows →
+        length (rows_bytes n names rows) < 2 ^ 64 →
         (first_fault n message.GetResponse (rows_bytes n names rows) ≡ None)
         × (get_response n (rows_bytes n names rows) ≡ record { rows = map (row_as_read n names) rows }) }
 {}

@@ -6,6 +6,7 @@ ghost use Rattle.gribi_messages.specs.Response.{result_bytes, result_field, para
 use crate::lists::AftResults;
 use crate::writers::write_uint128;
 use aft_messages::{nonzero_uint_size, write_length_prefix, write_nonzero_uint, write_two_uints};
+use proto_wire::roll_back;
 use schema_numbers::{FieldName, Numbering};
 use std::alloc::{AllocError, Global};
 
@@ -64,8 +65,7 @@ fn write_result_numbers(n: &Numbering, r: &AftResult, out: &mut Vec<u8>) -> Resu
         out,
     );
     if rest.is_err() {
-        out.truncate(before);
-        return Err(AllocError);
+        return Err(roll_back(out, before));
     }
     Ok(())
 }
@@ -82,8 +82,7 @@ fn write_result(n: &Numbering, r: &AftResult, out: &mut Vec<u8>) -> Result<(), A
         out,
     )?;
     if write_result_numbers(n, r, out).is_err() {
-        out.truncate(before);
-        return Err(AllocError);
+        return Err(roll_back(out, before));
     }
     Ok(())
 }
@@ -95,8 +94,7 @@ fn write_results(n: &Numbering, results: &[AftResult], out: &mut Vec<u8>) -> Res
     let before = out.len();
     for r in results {
         if write_result(n, r, out).is_err() {
-            out.truncate(before);
-            return Err(AllocError);
+            return Err(roll_back(out, before));
         }
     }
     Ok(())
@@ -112,8 +110,7 @@ fn write_params(n: &Numbering, status: u64, out: &mut Vec<u8>) -> Result<(), All
     let outer = n.field(FieldName::ModifyResponseSessionParamsResult);
     write_length_prefix(outer, nonzero_uint_size(inner, status), out)?;
     if write_nonzero_uint(inner, status, out).is_err() {
-        out.truncate(before);
-        return Err(AllocError);
+        return Err(roll_back(out, before));
     }
     Ok(())
 }
@@ -165,8 +162,7 @@ pub fn append_modify_response(
     if write_params_if(n, r.params, out).is_err()
         || write_election_if(n, r.election, out).is_err()
     {
-        out.truncate(before);
-        return Err(AllocError);
+        return Err(roll_back(out, before));
     }
     Ok(())
 }

@@ -232,7 +232,8 @@ pub fn encode_get_response(
 ) -> Result<Vec<u8>, AllocError>
     requires { All (RowHasKnownInstances (length i.now)) rows.now }
     ensures bytes { IfOk result (λ bytes. bytes.items ≡ rows_bytes n.now i.now rows.now) }
-    ensures again { IfOk result (λ bytes. (fault_of n.now message.GetResponse bytes.items ≡ None) × (get_response n.now bytes.items ≡ record { rows = map (row_as_read n.now i.now) rows.now })) }
+    ensures again { IfOk result (λ bytes. (fault_of n.now message.GetResponse bytes.items ≡ None)
+        × (get_response n.now bytes.items ≡ record { rows = map (row_as_read n.now i.now) rows.now })) }
 {
     let mut out = Vec::new(alloc);
     write_rows(alloc, n, i, rows, &mut out)?;

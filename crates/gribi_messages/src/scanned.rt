@@ -69,7 +69,8 @@ fn scan_member<'a>(
     chosen: &mut Option<OneofMember<'a>>,
     field: &Field<'a>,
 ) -> Result<(), AllocError>
-    ensures { OnOk result (option_map oneof_member_view chosen.new ≡ oneof_with (option_map oneof_member_view chosen.old) (member_in among.now field.now.number (value_of field.now.value))) }
+    ensures { OnOk result (option_map oneof_member_view chosen.new ≡ oneof_with (option_map oneof_member_view chosen.old)
+        (member_in among.now field.now.number (value_of field.now.value))) }
 {
     if let Some(piece) = member_of(among, field) {
         if chosen.is_some() {

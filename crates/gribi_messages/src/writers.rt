@@ -3,6 +3,7 @@ ghost use Rattle.proto_wire.specs.Written.{bytes_field};
 ghost use Rattle.gribi_messages.specs.Response.{uint128_bytes};
 
 use aft_messages::{nonzero_uint_size, write_length_prefix, write_two_uints};
+use proto_wire::roll_back;
 use schema_numbers::{FieldName, Numbering};
 use std::alloc::AllocError;
 
@@ -25,8 +26,7 @@ pub fn write_uint128(
     let size = nonzero_uint_size(high_number, high) + nonzero_uint_size(low_number, low);
     write_length_prefix(number, size, out)?;
     if write_two_uints(high_number, high, low_number, low, out).is_err() {
-        out.truncate(before);
-        return Err(AllocError);
+        return Err(roll_back(out, before));
     }
     Ok(())
 }

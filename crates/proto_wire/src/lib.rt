@@ -9,4 +9,4 @@ pub use laws::{
     field_is_read_again, message_is_read_again, varint_is_read_again, varint_is_shortest,
 };
 pub use reader::{Field, FieldReader, Next, WireFault, WireValue};
-pub use writer::{write_bytes, write_uint, write_varint};
+pub use writer::{roll_back, write_bytes, write_uint, write_varint};

@@ -1,4 +1,4 @@
-ghost use Rattle.std.specs.Prelude.{◌≡◌, ◌++◌, OnOk, OnErr};
+ghost use Rattle.std.specs.Prelude.{◌≡◌, ◌++◌, take, OnOk, OnErr};
 ghost use Rattle.proto_wire.specs.Written.{varint, uint_field, bytes_field};
 
 use std::alloc::AllocError;
@@ -43,8 +43,7 @@ pub fn write_uint(number: u32, value: u64, out: &mut Vec<u8>) -> Result<(), Allo
     let before = out.len();
     write_varint(u64::from(number) * 8, out)?;
     if write_varint(value, out).is_err() {
-        out.truncate(before);
-        return Err(AllocError);
+        return Err(roll_back(out, before));
     }
     Ok(())
 }
@@ -57,8 +56,16 @@ pub fn write_bytes(number: u32, value: &[u8], out: &mut Vec<u8>) -> Result<(), A
     let before = out.len();
     write_varint(u64::from(number) * 8 + 2, out)?;
     if write_varint(value.len() as u64, out).is_err() || out.extend_from_slice(value).is_err() {
-        out.truncate(before);
-        return Err(AllocError);
+        return Err(roll_back(out, before));
     }
     Ok(())
+}
+
+/// Drops what was appended behind the first `len` bytes, and answers want of memory: what a writer answers where it
+/// could write the beginning alone.
+pub fn roll_back(out: &mut Vec<u8>, len: usize) -> AllocError
+    ensures { out.new.items ≡ take len out.old.items }
+{
+    out.truncate(len);
+    AllocError
 }

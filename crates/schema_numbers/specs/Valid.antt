@@ -12,7 +12,9 @@ use Rattle.schema_numbers.specs.Numbers.{Numbers, field_of, value_of}
 abbrev pub messages : List (List FieldName)
 messages =
     (field.ModifyRequestOperation ∷ field.ModifyRequestParams ∷ field.ModifyRequestElectionId ∷ []) ∷
-    (field.AftOperationId ∷ field.AftOperationNetworkInstance ∷ field.AftOperationOp ∷ field.AftOperationIpv4 ∷ field.AftOperationIpv6 ∷ field.AftOperationMpls ∷ field.AftOperationNextHopGroup ∷ field.AftOperationNextHop ∷ field.AftOperationMacAddress ∷ field.AftOperationPolicyForwardingEntry ∷ field.AftOperationElectionId ∷ []) ∷
+    (field.AftOperationId ∷ field.AftOperationNetworkInstance ∷ field.AftOperationOp ∷ field.AftOperationIpv4 ∷
+    field.AftOperationIpv6 ∷ field.AftOperationMpls ∷ field.AftOperationNextHopGroup ∷ field.AftOperationNextHop ∷
+    field.AftOperationMacAddress ∷ field.AftOperationPolicyForwardingEntry ∷ field.AftOperationElectionId ∷ []) ∷
     (field.SessionParametersRedundancy ∷ field.SessionParametersPersistence ∷ field.SessionParametersAckType ∷ []) ∷
     (field.Uint128High ∷ field.Uint128Low ∷ []) ∷
     (field.ModifyResponseResult ∷ field.ModifyResponseSessionParamsResult ∷ field.ModifyResponseElectionId ∷ []) ∷
@@ -20,7 +22,8 @@ messages =
     (field.SessionParametersResultStatus ∷ []) ∷
     (field.GetRequestName ∷ field.GetRequestAll ∷ field.GetRequestAft ∷ []) ∷
     (field.GetResponseEntry ∷ []) ∷
-    (field.AftEntryNetworkInstance ∷ field.AftEntryIpv4 ∷ field.AftEntryIpv6 ∷ field.AftEntryMpls ∷ field.AftEntryNextHopGroup ∷ field.AftEntryNextHop ∷ field.AftEntryRibStatus ∷ field.AftEntryFibStatus ∷ []) ∷
+    (field.AftEntryNetworkInstance ∷ field.AftEntryIpv4 ∷ field.AftEntryIpv6 ∷ field.AftEntryMpls ∷ field.AftEntryNextHopGroup ∷
+    field.AftEntryNextHop ∷ field.AftEntryRibStatus ∷ field.AftEntryFibStatus ∷ []) ∷
     (field.FlushRequestId ∷ field.FlushRequestOverride ∷ field.FlushRequestName ∷ field.FlushRequestAll ∷ []) ∷
     (field.FlushResponseTimestamp ∷ field.FlushResponseResult ∷ []) ∷
     (field.ModifyRpcErrorDetailsReason ∷ []) ∷
@@ -53,7 +56,8 @@ enumerations =
     (value.AftAll ∷ value.AftIpv4 ∷ value.AftIpv6 ∷ value.AftMpls ∷ value.AftNextHop ∷ value.AftNextHopGroup ∷ []) ∷
     (value.EntryStatusProgrammed ∷ value.EntryStatusNotProgrammed ∷ []) ∷
     (value.FlushResultOk ∷ value.FlushResultNonZeroReferenceRemain ∷ []) ∷
-    (value.ModifyReasonUnsupportedParams ∷ value.ModifyReasonModifyNotAllowed ∷ value.ModifyReasonParamsDifferFromOtherClients ∷ value.ModifyReasonElectionIdInAllPrimary ∷ []) ∷
+    (value.ModifyReasonUnsupportedParams ∷ value.ModifyReasonModifyNotAllowed ∷ value.ModifyReasonParamsDifferFromOtherClients ∷
+    value.ModifyReasonElectionIdInAllPrimary ∷ []) ∷
     []
 
 -- no number stands twice
