@@ -17,14 +17,15 @@ from proved import build, run  # noqa: E402
 
 ROUNDS = 5
 CRATES = {
+    "vec_list": "",
     "proto_wire": "",
     "schema_numbers": "",
     "proto_schema": "proto_wire schema_numbers",
     "addr_text": "",
-    "aft_entries": "addr_text",
-    "aft_messages": "proto_wire schema_numbers proto_schema addr_text aft_entries",
-    "gribi_messages": "proto_wire schema_numbers proto_schema aft_entries aft_messages",
-    "program": "proto_wire schema_numbers gribi_messages anyhow",
+    "aft_entries": "vec_list addr_text",
+    "aft_messages": "vec_list proto_wire schema_numbers proto_schema addr_text aft_entries",
+    "gribi_messages": "vec_list proto_wire schema_numbers proto_schema aft_entries aft_messages",
+    "program": "vec_list proto_wire schema_numbers gribi_messages anyhow",
 }
 
 

@@ -32,7 +32,12 @@ STRINGS = [
     "aec3771a4b",
     "9d29ad171863c78f0b97c8e9ae82ae43d3",
 ]
-CRATES = {"hpack_huffman": "", "hpack_tables": "hpack_huffman http_header bytes", "program": "hpack_tables anyhow"}
+CRATES = {
+    "vec_list": "",
+    "hpack_huffman": "",
+    "hpack_tables": "vec_list hpack_huffman http_header bytes",
+    "program": "vec_list hpack_tables anyhow",
+}
 
 
 def compare(name: str, parts: list[str], words: list[str], plain: pathlib.Path, proved: pathlib.Path) -> None:

@@ -18,7 +18,7 @@ sys.path.insert(0, str(HERE.parent))
 from proved import build  # noqa: E402
 
 ROUNDS = 5
-CRATES = {"table_lock may_wait=3": "atomic_table", "program": "table_lock"}
+CRATES = {"table_lock may_wait=5": "atomic_table", "program": "table_lock"}
 OTHERS = {
     "src/machine.rt": HERE / "machine.rt.in",
     "proofs/Lib.antt": HERE / "Lib.antt.in",

@@ -12,13 +12,13 @@ mod write;
 
 pub use field_values::{embedded_at, read_text, string_value_at, text_in, uint_value_at};
 pub use fields::{
-    write_label, write_length_delimited, write_length_prefix, write_nonempty_length_delimited,
-    write_nonempty_text, write_nonzero_uint, write_string_value, write_two_uints, write_uint_value,
+    write_label, write_length_delimited, write_length_prefix, write_nonempty_text,
+    write_nonzero_uint, write_string_value, write_two_uints, write_uint_value,
 };
 pub use index_only::index_only_hop_index;
 pub use laws::entry_is_read_again;
 pub use print::encode_entry;
 pub use proto_schema::MessageFault;
-pub use read::{decode_entry, key_message, read_entry};
-pub use sizes::{nonzero_uint_size, varint_size};
+pub use read::{decode_entry, read_entry};
+pub use sizes::nonzero_uint_size;
 pub use write::encode_raw_entry;

@@ -20,8 +20,8 @@ mod writers;
 pub use aft_entries::{Name, Op, RawEntry, RawOperation};
 pub use asks::{FlushAsk, FlushRequest, FlushResponse, GetRequest, InstanceAsk};
 pub use decode::{
-    IndexOnlyHop, decode_modify, header_of, index_only_hop, op_of, operation_of, scan_operation,
-    scanned_operation, uint128_of,
+    IndexOnlyHop, decode_modify, header_of, index_only_hop, operation_of, scan_operation,
+    scanned_operation,
 };
 pub use flush::{decode_flush, decode_flush_response, encode_flush_request, encode_flush_response};
 pub use get::{decode_get, encode_get_request};
