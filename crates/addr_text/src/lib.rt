@@ -1,4 +1,11 @@
 //! Addresses and prefixes, their texts and their numbers.
+//!
+//! Begin with [`read_v4_prefix`], [`read_v6_prefix`] and [`read_addr`]; their grammar is `specs/AddressGrammar`, the
+//! printed form (RFC 5952) `specs/Printed`.
+//!
+//! ```
+//! let prefix = read_v4_prefix("198.51.100.0/24")?;
+//! ```
 #![tactic(auto)]
 
 mod groups;

@@ -1,4 +1,11 @@
 //! Entries of the forwarding tables: keys, payloads, and what an operation asks.
+//!
+//! Begin with [`check_entry`], which reads an operation as it was sent; `specs/Checked` is its contract. `specs/Order`
+//! has the order of keys, `specs/References` what an entry refers to.
+//!
+//! ```
+//! match check_entry(alloc, &instances, operation)? { Ask::Put(entry, is_replace) => .., .. }
+//! ```
 #![tactic(auto)]
 
 mod check;

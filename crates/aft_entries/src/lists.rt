@@ -60,6 +60,7 @@ impl Members {
         Members { members }
     }
 
+    /// The members, as a vector.
     pub fn into_vec(self) -> Vec<Member>
         ensures { result.items ≡ self }
     {
@@ -67,6 +68,7 @@ impl Members {
         members
     }
 
+    /// The members in order of their index.
     pub fn as_slice(&self) -> &[Member]
         ensures items { result.now ≡ self.now }
         ensures order { IsTrue (is_in_order self.now) }
@@ -87,12 +89,14 @@ impl Clone for Members {
 }
 
 impl Name {
+    /// The text, which is moved.
     pub fn from_string(text: String) -> Name
         ensures { result ≡ string_bytes text }
     {
         Name { text }
     }
 
+    /// The text.
     pub fn as_str(&self) -> &str
         ensures { result.now ≡ self.now }
     {

@@ -1,4 +1,11 @@
 //! The messages of gRIBI's entries, read from bytes and written as bytes, over a numbering.
+//!
+//! Begin with [`decode_entry`] and [`encode_entry`]; `specs/Reading` is what bytes say, `specs/Writing` how an entry is
+//! spelled.
+//!
+//! ```
+//! let entry = decode_entry(alloc, &numbering, bytes, Kind::Hop)?;
+//! ```
 #![tactic(auto)]
 
 mod field_values;

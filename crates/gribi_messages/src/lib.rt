@@ -1,4 +1,11 @@
 //! The messages of gRIBI, read from bytes and written as bytes, over a numbering.
+//!
+//! Begin with [`decode_modify`] and [`encode_modify_response`]; each message has a file in `specs/` for what its bytes
+//! say and how it is spelled (`Request`, `Response`, `Rows` and their like).
+//!
+//! ```
+//! let request = decode_modify(alloc, &numbering, bytes)?;
+//! ```
 #![tactic(auto)]
 
 mod asks;

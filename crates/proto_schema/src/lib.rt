@@ -1,4 +1,11 @@
 //! The schema of gRIBI's messages over a numbering, the first fault of a message, and what a message says.
+//!
+//! Begin with [`first_fault`], whose contract is `specs/Legal`; where it finds none, [`number_at`], [`text_at`],
+//! [`message_at`] and [`oneof_at`] read the fields (`specs/FieldValues`).
+//!
+//! ```
+//! match first_fault(&numbering, MessageKind::ModifyRequest, bytes) { None => .., Some(fault) => .. }
+//! ```
 #![tactic(auto)]
 
 mod field_values;

@@ -21,12 +21,14 @@ impl<'a> Model for MergedBytes<'a> {
 }
 
 impl<'a> MergedBytes<'a> {
+    /// The bytes of one occurrence, which are borrowed.
     pub fn new(one: &'a [u8]) -> MergedBytes<'a>
         ensures { result ≡ one.now }
     {
         MergedBytes { one, several: None }
     }
 
+    /// The bytes of all occurrences, one behind the other.
     pub fn as_bytes(&self) -> &[u8]
         ensures { result.now ≡ self.now }
     {

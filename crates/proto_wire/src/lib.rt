@@ -1,4 +1,12 @@
 //! The fields of a Protocol Buffers message, read and written.
+//!
+//! Begin with [`FieldReader`]; `specs/Fields` is its contract, `specs/Wire` one field, and `specs/Written` what the
+//! writers append.
+//!
+//! ```
+//! let mut reader = FieldReader::new(message);
+//! while let Next::Field(field) = reader.next() { .. }
+//! ```
 #![tactic(auto)]
 
 mod laws;

@@ -1,4 +1,11 @@
 //! The numbers of gRIBI's fields and enumerators on the wire.
+//!
+//! Begin with [`default_numbering`], whose table is `specs/Default`; `specs/Valid` has the rules that a [`Numbering`]
+//! keeps by its type.
+//!
+//! ```
+//! let number = default_numbering(alloc)?.field(FieldName::AftOperationId);
+//! ```
 #![tactic(auto)]
 
 mod names;
