@@ -1,7 +1,6 @@
 -- What the link in memory is seen as.
-use Rattle.std.specs.Prelude.{◌≡◌, ◌⊎◌, ℕ, zero, suc, ◌+◌, Bool, true, false, List, [], ◌∷◌, ◌++◌, take, drop, min, Option, Some, None}
-use Rattle.rig_io.specs.Fault.{HasRisen}
-use Rattle.rig_io.specs.Link.{Piece, received, sent}
+use Rattle.std.specs.Prelude.{◌≡◌, ◌⊎◌, ℕ, zero, suc, ◌+◌, ◌-◌, ◌^◌, Bool, true, false, List, [], ◌∷◌, ◌++◌, take, drop, min, Option, Some, None}
+use Rattle.rig_io.specs.Link.{Piece, InputLeft, received, sent}
 use Rattle.rig_io.specs.declared.link.LinkRead.{LinkRead}
 use Rattle.rig_io.specs.declared.link.LinkRead.TheVariants as read
 use Rattle.rig_io.specs.declared.link.LinkWrite.{LinkWrite}
@@ -23,7 +22,16 @@ pub record MemLinkState : Type 0 where
   pub faults : ℕ
   pub read_idles : ℕ
   pub write_idles : ℕ
+  pub ends : ℕ
   pub refused : ℕ
+
+-- the bytes that no poll has got, as a link tells them
+abbrev pub input_left : MemLinkState → InputLeft
+input_left l = record { bytes = l.left; over = l.over }
+
+-- a count with one more; the last number stands for all past it
+abbrev pub counted : ℕ → ℕ
+counted n = min (n + 1) (2 ^ 64 - 1)
 
 -- the pieces, by how many bytes each has
 abbrev pub pieces_of : List Transfer → List ℕ → List ℕ → List Piece
@@ -70,13 +78,14 @@ ReadByStep Idles left over result before now = (result ≡ read.NotReady) × (no
 ReadByStep (Passes most) zero true result before now = (result ≡ read.End) × (now ≡ before)
 ReadByStep (Passes most) zero false result before now = (result ≡ read.NotReady) × (now ≡ before)
 ReadByStep (Passes most) (suc left) over result before now =
-    ((result ≡ read.Got (min (suc left) most)) × (now ≡ before)) ⊎ ((result ≡ read.Failed) × HasRisen before now)
+    ((result ≡ read.Got (min (suc left) most)) × (now ≡ before)) ⊎ ((result ≡ read.Failed) × (now ≡ counted before))
 
 -- and a write
 abbrev pub WriteByStep : Serving → LinkWrite → ℕ → ℕ → Type 0
 WriteByStep Fails result before now = (result ≡ write.Failed) × (now ≡ before)
 WriteByStep Idles result before now = (result ≡ write.NotReady) × (now ≡ before)
-WriteByStep (Passes most) result before now = ((result ≡ write.Put most) × (now ≡ before)) ⊎ ((result ≡ write.Failed) × HasRisen before now)
+WriteByStep (Passes most) result before now =
+    ((result ≡ write.Put most) × (now ≡ before)) ⊎ ((result ≡ write.Failed) × (now ≡ counted before))
 
 -- all bytes sent, behind a write
 abbrev pub sent_after : List ℕ → LinkWrite → List ℕ → List ℕ

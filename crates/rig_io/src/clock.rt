@@ -5,16 +5,17 @@ use std::marker::Model;
 
 /// A clock, whose moments are nanoseconds of which nothing is known.
 pub trait Clock: Send {
-    /// The moment.
+    /// The moment, in nanoseconds.
     fn now(&mut self) -> i64;
 
-    /// A clock of the same kind for another thread.
+    /// A clock of the same kind, for another thread.
     fn twin(&self) -> Self;
 }
 
 /// Answers `first`, and then one more at each call, up to the greatest moment.
 #[derive(Drop)]
 pub struct StepClock {
+    /// What it answers next.
     pub next: i64,
 }
 

@@ -13,6 +13,7 @@ pub enum Dialled<L> {
 
 /// Gives links that it dials, and takes them back.
 pub trait Dialer {
+    /// The links that it gives.
     type Link: Link + Drop;
 
     ghost use Rattle.rig_io.specs.Fault.{HasCause, StaysUnless};
@@ -33,18 +34,19 @@ pub trait Dialer {
     /// How often it has failed.
     ghost faults: { Self → ℕ };
 
-    /// Gives a link to the address.
+    /// Gives a link to the address, which it hands on unread, or fails.
     fn dial(&mut self, address: &str) -> Dialled<Self::Link>
         ensures given_count { CountsDialled (given_count self.old) (given_count self.new) result }
         ensures given { ListsDialled (given self.old) (given self.new) result }
         ensures cause { HasCause (faults self.old) (faults self.new) (result ≡ Dialled.Failed) }
         ensures stays { StaysUnless (faults self.old) (faults self.new) (result ≡ Dialled.Failed) }
-        ensures same { (retired_count self.new ≡ retired_count self.old) × (retired self.new ≡ retired self.old) };
+        ensures retired { (retired_count self.new ≡ retired_count self.old) × (retired self.new ≡ retired self.old) };
 
-    /// Takes back a link that is used no more.
+    /// Takes back a link that is used no more, of which there are fewer than were given.
     fn retire(&mut self, link: Self::Link)
         requires { retired_count self.old < given_count self.old }
         ensures retired_count { retired_count self.new ≡ retired_count self.old + 1 }
         ensures retired { Retires (retired self.old) (retired self.new) link }
-        ensures same { (given_count self.new ≡ given_count self.old) × (given self.new ≡ given self.old) × (faults self.new ≡ faults self.old) };
+        ensures given { (given_count self.new ≡ given_count self.old) × (given self.new ≡ given self.old) }
+        ensures faults { faults self.new ≡ faults self.old };
 }

@@ -9,13 +9,14 @@ pub struct Gates {
 }
 
 impl Gates {
+    /// Eight flags, all down.
     pub fn new() -> Gates {
         Gates {
             flags: AtomicU64::new(0),
         }
     }
 
-    /// Raises the flag.
+    /// Raises the flag, which stays up.
     pub fn raise(&self, n: usize)
         requires { n < 8 }
     {

@@ -45,6 +45,9 @@ pub trait Link: Send {
     /// How often nothing could be placed.
     ghost write_idles: { Self → ℕ };
 
+    /// How often a poll answered that the input has ended.
+    ghost ends: { Self → ℕ };
+
     /// Gets at least one byte, if one is there.
     fn poll_read(&mut self, buffer: &mut [u8]) -> LinkRead
         requires { 0 < length buffer.old }
@@ -56,6 +59,8 @@ pub trait Link: Send {
         ensures stays { StaysUnless (faults self.old) (faults self.new) (result ≡ LinkRead.Failed) }
         ensures idle { HasCause (read_idles self.old) (read_idles self.new) (result ≡ LinkRead.NotReady) }
         ensures awake { StaysUnless (read_idles self.old) (read_idles self.new) (result ≡ LinkRead.NotReady) }
+        ensures end { HasCause (ends self.old) (ends self.new) (result ≡ LinkRead.End) }
+        ensures goes_on { StaysUnless (ends self.old) (ends self.new) (result ≡ LinkRead.End) }
         ensures writes { write_idles self.new ≡ write_idles self.old };
 
     /// Places at least one byte of the piece, if that can be done now.
@@ -68,5 +73,6 @@ pub trait Link: Send {
         ensures stays { StaysUnless (faults self.old) (faults self.new) (result ≡ LinkWrite.Failed) }
         ensures idle { HasCause (write_idles self.old) (write_idles self.new) (result ≡ LinkWrite.NotReady) }
         ensures awake { StaysUnless (write_idles self.old) (write_idles self.new) (result ≡ LinkWrite.NotReady) }
-        ensures reads { read_idles self.new ≡ read_idles self.old };
+        ensures reads { read_idles self.new ≡ read_idles self.old }
+        ensures ends { ends self.new ≡ ends self.old };
 }

@@ -20,11 +20,17 @@ pub enum LinkStep {
 /// A call that passed bytes, and how many.
 #[derive(Clone, Copy, Debug, PartialEq, Eq)]
 pub enum Transfer {
+    /// A poll got so many.
     Received(usize),
+    /// A poll placed so many.
     Sent(usize),
 }
 
-/// A link in memory. The steps of its plan serve successive calls; after the plan's end every call passes what it can.
+/// A link in memory, which keeps all that passes.
+///
+/// The steps of its plan serve successive calls, reads and writes counted together; after the plan's
+/// end each call passes what it can. It fails exactly at the steps `Fail`, and where it finds no
+/// memory, which `refused` counts.
 #[derive(Drop)]
 pub struct MemLink {
     plan: Vec<LinkStep>,
@@ -39,6 +45,7 @@ pub struct MemLink {
     faults: u64,
     read_idles: u64,
     write_idles: u64,
+    ends: u64,
     refused: u64,
 }
 
@@ -58,10 +65,15 @@ impl Model for MemLink {
       faults = l.faults;
       read_idles = l.read_idles;
       write_idles = l.write_idles;
+      ends = l.ends;
       refused = l.refused;
     } };
 
-    ghost invariant = { λ l. (l.given ≤ vec_len l.input) × (l.calls ≤ vec_len l.plan) × (l.carried ≤ vec_len l.output) × (received_count l.marks.items ≡ l.given) × (sent_count l.marks.items ≡ vec_len l.output) };
+    ghost invariant = { λ l. (l.given ≤ vec_len l.input)
+        × (l.calls ≤ vec_len l.plan)
+        × (l.carried ≤ vec_len l.output)
+        × (received_count l.marks.items ≡ l.given)
+        × (sent_count l.marks.items ≡ vec_len l.output) };
 }
 
 impl MemLink {
@@ -77,6 +89,7 @@ impl MemLink {
           faults = 0;
           read_idles = 0;
           write_idles = 0;
+          ends = 0;
           refused = 0;
         } }
     {
@@ -92,11 +105,12 @@ impl MemLink {
             faults: 0,
             read_idles: 0,
             write_idles: 0,
+            ends: 0,
             refused: 0,
         }
     }
 
-    /// Bytes to be read, behind those that are there.
+    /// Bytes to be read, behind those that are there, in an input that isn't ended. An Err leaves the link as it was.
     pub fn feed(&mut self, piece: &[u8]) -> Result<(), AllocError>
         requires { self.old.over ≡ false }
         ensures ok { OnOk result (self.new ≡ record self.old { left = self.old.left ++ piece.now }) }
@@ -126,7 +140,7 @@ impl MemLink {
         &self.output
     }
 
-    /// Appends the bytes sent that were not taken before.
+    /// Appends the bytes sent that no earlier call took. An Err leaves both as they were.
     pub fn take_sent(&mut self, into: &mut Vec<u8>) -> Result<(), AllocError>
         ensures ok { OnOk result (into.new.items ≡ into.old.items ++ drop self.old.carried self.old.sent) }
         ensures carried { OnOk result (self.new ≡ record self.old { carried = length self.old.sent }) }
@@ -164,11 +178,11 @@ impl Link for MemLink {
     ghost use Rattle.std.specs.Prelude.{Some};
     ghost use Rattle.rig_io.specs.Fault.{HasCause, StaysUnless};
     ghost use Rattle.rig_io.specs.Link.{ReadInBounds, WriteInBounds, PollReads, Receives, Sends};
-    ghost use Rattle.rig_io.specs.MemLinks.{ReadByStep, WriteByStep, sent_after, serving};
+    ghost use Rattle.rig_io.specs.MemLinks.{ReadByStep, WriteByStep, counted, input_left, sent_after, serving};
 
     ghost pieces = { λ l. Some l.pieces };
 
-    ghost left = { λ l. Some (record { bytes = l.left; over = l.over }) };
+    ghost left = { λ l. Some (input_left l) };
 
     ghost faults = { λ l. l.faults };
 
@@ -176,19 +190,25 @@ impl Link for MemLink {
 
     ghost write_idles = { λ l. l.write_idles };
 
+    ghost ends = { λ l. l.ends };
+
     fn poll_read(&mut self, buffer: &mut [u8]) -> LinkRead
         requires { 0 < length buffer.old }
         ensures bound { ReadInBounds result (length buffer.new) }
         ensures size { length buffer.new ≡ length buffer.old }
-        ensures bytes { PollReads (Some (record { bytes = self.old.left; over = self.old.over })) (Some (record { bytes = self.new.left; over = self.new.over })) result buffer.new }
+        ensures bytes { PollReads (Some (input_left self.old)) (Some (input_left self.new)) result buffer.new }
         ensures pieces { Receives (Some self.old.pieces) (Some self.new.pieces) result buffer.new }
         ensures cause { HasCause self.old.faults self.new.faults (result ≡ LinkRead.Failed) }
         ensures stays { StaysUnless self.old.faults self.new.faults (result ≡ LinkRead.Failed) }
         ensures idle { HasCause self.old.read_idles self.new.read_idles (result ≡ LinkRead.NotReady) }
         ensures awake { StaysUnless self.old.read_idles self.new.read_idles (result ≡ LinkRead.NotReady) }
+        ensures end { HasCause self.old.ends self.new.ends (result ≡ LinkRead.End) }
+        ensures goes_on { StaysUnless self.old.ends self.new.ends (result ≡ LinkRead.End) }
         ensures writes { self.new.write_idles ≡ self.old.write_idles }
         ensures plan { self.new.plan ≡ drop 1 self.old.plan }
-        ensures exact { ReadByStep (serving (first_step self.old.plan) (length buffer.old)) (length self.old.left) self.old.over result self.old.refused self.new.refused }
+        ensures exact { ReadByStep (serving (first_step self.old.plan) (length buffer.old)) (length self.old.left) self.old.over
+            result self.old.refused self.new.refused }
+        ensures count { result ≡ LinkRead.Failed → self.new.faults ≡ counted self.old.faults }
         ensures sent { (self.new.sent ≡ self.old.sent) × (self.new.carried ≡ self.old.carried) }
     {
         let limit = match self.step() {
@@ -206,6 +226,7 @@ impl Link for MemLink {
         }
         let rest = &self.input[self.given..];
         if rest.is_empty() {
+            self.ends = self.ends.saturating_add(1);
             return LinkRead::End;
         }
         let count = rest.len().min(limit);
@@ -222,15 +243,18 @@ impl Link for MemLink {
     fn poll_write(&mut self, piece: &[u8]) -> LinkWrite
         requires { 0 < length piece.now }
         ensures bound { WriteInBounds result (length piece.now) }
-        ensures bytes { (self.new.left ≡ self.old.left) × (self.new.over ≡ self.old.over) }
+        ensures bytes { input_left self.new ≡ input_left self.old }
         ensures pieces { Sends (Some self.old.pieces) (Some self.new.pieces) result piece.now }
         ensures cause { HasCause self.old.faults self.new.faults (result ≡ LinkWrite.Failed) }
         ensures stays { StaysUnless self.old.faults self.new.faults (result ≡ LinkWrite.Failed) }
         ensures idle { HasCause self.old.write_idles self.new.write_idles (result ≡ LinkWrite.NotReady) }
         ensures awake { StaysUnless self.old.write_idles self.new.write_idles (result ≡ LinkWrite.NotReady) }
         ensures reads { self.new.read_idles ≡ self.old.read_idles }
+        ensures ends { self.new.ends ≡ self.old.ends }
         ensures plan { self.new.plan ≡ drop 1 self.old.plan }
-        ensures exact { WriteByStep (serving (first_step self.old.plan) (length piece.now)) result self.old.refused self.new.refused }
+        ensures exact { WriteByStep (serving (first_step self.old.plan) (length piece.now))
+            result self.old.refused self.new.refused }
+        ensures count { result ≡ LinkWrite.Failed → self.new.faults ≡ counted self.old.faults }
         ensures sent { (self.new.sent ≡ sent_after self.old.sent result piece.now) × (self.new.carried ≡ self.old.carried) }
     {
         let limit = match self.step() {
@@ -268,7 +292,8 @@ fn note(marks: &mut Vec<Transfer>, transfer: Transfer) -> bool
 
 // Keeps a piece that is sent, or nothing for want of memory.
 fn send(marks: &mut Vec<Transfer>, output: &mut Vec<u8>, piece: &[u8]) -> bool
-    ensures ok { result ≡ true → (output.new.items ≡ output.old.items ++ piece.now) × (marks.new.items ≡ marks.old.items ++ Transfer.Sent (length piece.now) ∷ []) }
+    ensures bytes { result ≡ true → output.new.items ≡ output.old.items ++ piece.now }
+    ensures ok { result ≡ true → marks.new.items ≡ marks.old.items ++ Transfer.Sent (length piece.now) ∷ [] }
     ensures err { result ≡ false → (output.new.items ≡ output.old.items) × (marks.new.items ≡ marks.old.items) }
 {
     match marks.reserve(1) {
