@@ -92,7 +92,7 @@ module _ {M C R G : Type 0} (setup : M → G) (stands : M → List (Entry C R) �
 
   glance_keeps : (s : St) (r : Rule s) (id n : ℕ) (v : V) → get_elem? s.views id ≡ some v → v.kind ≡ Pass → Rule record { words = s.words; homes = s.homes; views = set s.views id (record v { ticket = n }) }
   glance_keeps s r id n v at pass = let k = seat_of s r id v at pass in let p = r.passes id v at pass in
-      quiet s r id v (record v { ticket = n }) at refl refl (λ _. record { seen = k.seen; legal = k.legal; setup_is = k.setup_is; left = k.left; right = k.right; note = k.note })
+      quiet s r id v (record v { ticket = n }) at refl refl (λ _. record { seen = k.seen; legal = k.legal; setup_is = k.setup_is; left = k.left; right = k.right; left_legal = k.left_legal; right_legal = k.right_legal; note = k.note })
       (λ _. record { below = p.below; own = p.own; known = p.known; root = p.root; running = p.running; phase_is = p.phase_is }) (λ t kind is. (kind, is)) (λ kind is. (kind, is))
 
   pub glances : (slots id : ℕ) (me : Me S V) → me.0.kind ≡ Pass → Allows Rule slots id me 0 (λ n. n) (glanced (step slots 0 0 0 none) me)
@@ -192,7 +192,7 @@ module _ {M C R G : Type 0} (setup : M → G) (stands : M → List (Entry C R) �
         bound = omega arith;
         legal = r.legal;
         seats = each (λ (j : ℕ) (u : V). u.kind ≢ Spent → Sees r.log u) s.views id w
-            (λ _. record { seen = k.seen; legal = k.legal; setup_is = k.setup_is; left = k.left; right = k.right; note = λ e. absurd (cc (pass, e)) }) (λ j u _ there. r.seats j u there);
+            (λ _. record { seen = k.seen; legal = k.legal; setup_is = k.setup_is; left = k.left; right = k.right; left_legal = k.left_legal; right_legal = k.right_legal; note = λ e. absurd (cc (pass, e)) }) (λ j u _ there. r.seats j u there);
         passes = each (λ (j : ℕ) (u : V). u.kind ≡ Pass → Runs r.log (get_or (set s.words 0 (n + 1)) 0 0) (length r.log) r.made (outs (set s.views id w)) r.ended u) s.views id w
             (λ _. subst (λ (x : ℕ × ℕ). Runs r.log x.0 (length r.log) r.made x.1 r.ended w) (λ i. (sym zeroth i, same i))
             record { below = p.below; own = p.own; known = p.known; root = p.root; running = p.running; phase_is = (r.order, omega arith) })
@@ -264,6 +264,8 @@ module _ {M C R G : Type 0} (setup : M → G) (stands : M → List (Entry C R) �
               setup_is = k.setup_is;
               left = prefix_trans v.left v.seen r.log k.left k.seen;
               right = prefix_trans v.right v.seen r.log k.right k.seen;
+              left_legal = k.left_legal;
+              right_legal = k.right_legal;
               note = λ e. absurd (cc (pass, e));
             }) (λ j u _ there. r.seats j u there);
         passes = each (λ (j : ℕ) (u : V). u.kind ≡ Pass → Runs r.log (get_or s.words 0 0) (length r.log) r.made (outs (set s.views id w)) r.ended u) s.views id w
@@ -367,9 +369,11 @@ module _ {M C R G : Type 0} (setup : M → G) (stands : M → List (Entry C R) �
               setup_is = k.setup_is;
               left = prefix_trans v.left v.seen (v.seen ++ e ∷ []) k.left (prefix_more v.seen (e ∷ []));
               right = prefix_trans v.right v.seen (v.seen ++ e ∷ []) k.right (prefix_more v.seen (e ∷ []));
+              left_legal = k.left_legal;
+              right_legal = k.right_legal;
               note = λ x. absurd (cc (pass, x));
             })
-            (λ j u _ there live. let q = r.seats j u there live in record { seen = grows u.seen q.seen; legal = q.legal; setup_is = q.setup_is; left = q.left; right = q.right; note = q.note });
+            (λ j u _ there live. let q = r.seats j u there live in record { seen = grows u.seen q.seen; legal = q.legal; setup_is = q.setup_is; left = q.left; right = q.right; left_legal = q.left_legal; right_legal = q.right_legal; note = q.note });
         passes = each (λ (j : ℕ) (u : V). u.kind ≡ Pass → Runs (r.log ++ e ∷ []) (get_or (set s.words 1 n) 0 0) (length (r.log ++ e ∷ [])) r.made (outs (set s.views id w)) r.ended u) s.views id w
             (λ _. record {
               below = p.below;
@@ -466,8 +470,8 @@ module _ {M C R G : Type 0} (setup : M → G) (stands : M → List (Entry C R) �
         order = r.order;
         bound = r.bound;
         legal = r.legal;
-        seats = each_more Sees' vs u (λ _. record { seen = k.seen; legal = k.legal; setup_is = k.setup_is; left = k.left; right = k.right; note = λ e. absurd (cc e) })
-            (each Sees' s.views id w (λ _. record { seen = k.seen; legal = k.legal; setup_is = k.setup_is; left = k.left; right = k.right; note = k.note }) (λ j x _ there. r.seats j x there));
+        seats = each_more Sees' vs u (λ _. record { seen = k.seen; legal = k.legal; setup_is = k.setup_is; left = k.left; right = k.right; left_legal = k.left_legal; right_legal = k.right_legal; note = λ e. absurd (cc e) })
+            (each Sees' s.views id w (λ _. record { seen = k.seen; legal = k.legal; setup_is = k.setup_is; left = k.left; right = k.right; left_legal = k.left_legal; right_legal = k.right_legal; note = k.note }) (λ j x _ there. r.seats j x there));
         passes = each_more Runs' vs u
             (λ _. record {
               below = omega arith;
@@ -529,7 +533,7 @@ module _ {M C R G : Type 0} (setup : M → G) (stands : M → List (Entry C R) �
         order = r.order;
         bound = r.bound;
         legal = r.legal;
-        seats = each_more (λ (j : ℕ) (x : V). x.kind ≢ Spent → Sees r.log x) vs u (λ _. record { seen = k.seen; legal = k.legal; setup_is = k.setup_is; left = k.left; right = k.right; note = λ _. (refl, refl) }) r.seats;
+        seats = each_more (λ (j : ℕ) (x : V). x.kind ≢ Spent → Sees r.log x) vs u (λ _. record { seen = k.seen; legal = k.legal; setup_is = k.setup_is; left = k.left; right = k.right; left_legal = k.left_legal; right_legal = k.right_legal; note = λ _. (refl, refl) }) r.seats;
         passes = each_more (λ (j : ℕ) (x : V). x.kind ≡ Pass → Runs r.log (get_or s.words 0 0) (length r.log) r.made (outs (vs ++ u ∷ [])) r.ended x) vs u (λ is. absurd (cc is)) (λ j x there is. outs_moved s r (outs (vs ++ u ∷ [])) j x same there is);
         apart = distinct_more name_of vs u r.apart (λ j t x there is mine. some-ne-none t (sym mine));
         queued = distinct_more held_of vs u r.queued (λ j t x there is mine. some-ne-none t (sym mine));
@@ -590,7 +594,7 @@ module _ {M C R G : Type 0} (setup : M → G) (stands : M → List (Entry C R) �
         order = r.order;
         bound = r.bound;
         legal = r.legal;
-        seats = each Sees' vs other z (λ live. absurd (live refl)) (λ j x _ e. each Sees' s.views id b (λ _. record { seen = h.0; legal = h.1; setup_is = k.setup_is; left = h.2; right = h.3; note = k.note }) (λ j x _ there. r.seats j x there) j x e);
+        seats = each Sees' vs other z (λ live. absurd (live refl)) (λ j x _ e. each Sees' s.views id b (λ _. record { seen = h.0; legal = h.1; setup_is = k.setup_is; left = h.2; right = h.3; left_legal = k.legal; right_legal = k'.legal; note = k.note }) (λ j x _ there. r.seats j x there) j x e);
         passes = each Runs' vs other z (λ is. absurd (cc is)) (λ j x _ e. each Runs' s.views id b
             (λ _. record {
               below = p.below;
@@ -647,7 +651,7 @@ module _ {M C R G : Type 0} (setup : M → G) (stands : M → List (Entry C R) �
         order = r.order;
         bound = r.bound;
         legal = r.legal;
-        seats = each Sees' vs other z (λ live. absurd (live refl)) (λ j x _ e. each Sees' s.views id b (λ _. record { seen = h.0; legal = h.1; setup_is = k.setup_is; left = h.2; right = h.3; note = k.note }) (λ j x _ there. r.seats j x there) j x e);
+        seats = each Sees' vs other z (λ live. absurd (live refl)) (λ j x _ e. each Sees' s.views id b (λ _. record { seen = h.0; legal = h.1; setup_is = k.setup_is; left = h.2; right = h.3; left_legal = k.legal; right_legal = k'.legal; note = k.note }) (λ j x _ there. r.seats j x there) j x e);
         passes = each (λ (j : ℕ) (x : V). x.kind ≡ Pass → Runs r.log T N r.made (outs (set vs other z)) ended' x) vs other z (λ is. absurd (cc is)) (λ j x far e. each Runs' s.views id b
             (λ _ _. record {
               below = p.below;
@@ -693,7 +697,7 @@ module _ {M C R G : Type 0} (setup : M → G) (stands : M → List (Entry C R) �
         order = omega arith;
         bound = omega arith;
         legal = legal;
-        seats = only (λ (j : ℕ) (v : V). v.kind ≢ Spent → Sees [] v) (λ _. record { seen = prefix_none []; legal = legal; setup_is = refl; left = prefix_none []; right = prefix_none []; note = λ e. absurd (cc e) });
+        seats = only (λ (j : ℕ) (v : V). v.kind ≢ Spent → Sees [] v) (λ _. record { seen = prefix_none []; legal = legal; setup_is = refl; left = prefix_none []; right = prefix_none []; left_legal = legal; right_legal = legal; note = λ e. absurd (cc e) });
         passes = only (λ (j : ℕ) (v : V). v.kind ≡ Pass → Runs [] 0 0 1 0 [] v)
             (λ _. record { below = omega arith; own = refl; known = refl; root = λ _. (refl, refl, refl); running = λ h i e. absurd (some-ne-none i (sym e)); phase_is = tt });
         apart = λ i j n v w a b _ _. (let x = at_below (first key ∷ []) i v a in let y = at_below (first key ∷ []) j w b in omega arith);

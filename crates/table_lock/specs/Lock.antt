@@ -1,4 +1,5 @@
--- The rule of the lock's table, and what its steps tell. A step is one of nine kinds: split, join, glance, draw, look, take (with the look that finds the turn), give back (with the hand on), hand on, and settle.
+-- The rule of the lock's table, and what its steps tell. A step is one of nine kinds: split, join, glance, draw, look, take (with the
+-- look that finds the turn), give back (with the hand on), hand on, and settle.
 use Rattle.std.specs.Prelude.{◌≡◌, ◌≢◌, ℕ, zero, suc, ◌+◌, ◌-◌, ◌^◌, ◌<◌, ◌≤◌, ◌==◌, cond, nat_lt, List, [], ◌∷◌, ◌++◌, length, filter, slice_index, Option, Some, None}
 use mathlib.Core.Option.{some, none}
 use mathlib.Core.Option as maybe
@@ -76,7 +77,8 @@ module _ {C R G : Type 0} where
 
   -- no two seats have the same n
   abbrev pub Distinct : (View C R G → maybe.Option ℕ) → List (View C R G) → Type 0
-  Distinct f views = (i j n : ℕ) (v w : View C R G) → get_elem? views i ≡ some v → get_elem? views j ≡ some w → f v ≡ some n → f w ≡ some n → i ≡ j
+  Distinct f views =
+      (i j n : ℕ) (v w : View C R G) → get_elem? views i ≡ some v → get_elem? views j ≡ some w → f v ≡ some n → f w ≡ some n → i ≡ j
 
   -- no pass has found its turn
   abbrev pub NoneActs : List (View C R G) → Type 0
@@ -93,13 +95,16 @@ InPhase tickets serving length_seen _ (Waits t) = (serving ≤ t) × (t < ticket
 InPhase tickets serving length_seen length_log (Acts t) = (t ≡ serving) × (t < tickets) × (length_seen ≡ length_log)
 
 module _ {M C R G : Type 0} (setup : M → G) (stands : M → List (Entry C R) → Type 0) (lawful : G → List (Entry C R) → Type 0) (key : G) where
-  -- what a seat that is not spent knows: a lawful beginning of the history, and the setup. A note waits for nothing and has no calls
+  -- what a seat that is not spent knows: a lawful beginning of the history, the two histories, lawful too, that its last join put
+  -- together, and the setup. A note waits for nothing and has no calls
   pub record SeatOk (log : List (Entry C R)) (v : View C R G) : Type 0 where
     pub seen : IsPrefix v.seen log
     pub legal : lawful key v.seen
     pub setup_is : v.setup ≡ Some key
     pub left : IsPrefix v.left v.seen
     pub right : IsPrefix v.right v.seen
+    pub left_legal : lawful key v.left
+    pub right_legal : lawful key v.right
     pub note : v.kind ≡ Note → (v.phase ≡ Idle) × (v.mine ≡ [])
 
   -- what a pass knows: its own calls, all of which it has seen, and of the root the counts. Its ticket lies between the words
@@ -131,11 +136,13 @@ module _ {M C R G : Type 0} (setup : M → G) (stands : M → List (Entry C R) �
     pub bound : slice_index s.words 0 ≤ 2 ^ 62
     pub legal : lawful key log
     pub seats : (j : ℕ) (v : View C R G) → get_elem? s.views j ≡ some v → v.kind ≢ Spent → SeatOk log v
-    pub passes : (j : ℕ) (v : View C R G) → get_elem? s.views j ≡ some v → v.kind ≡ Pass → PassOk log (slice_index s.words 0) (length log) made (outs s.views) ended v
+    pub passes : (j : ℕ) (v : View C R G) → get_elem? s.views j ≡ some v → v.kind ≡ Pass
+        → PassOk log (slice_index s.words 0) (length log) made (outs s.views) ended v
     -- each ticket from the served one to the last drawn is held by exactly one pass, and no other is held
     pub holders : (t : ℕ) → length log ≤ t → t < slice_index s.words 0 → Has held_of s.views t
     pub queued : Distinct held_of s.views
-    -- The root is there. The passes that are there and those that were joined have the numbers below made, each one once, and so many were made
+    -- The root is there. The passes that are there and those that were joined have the numbers below made, each one once, and so many
+    -- were made
     pub root : Has name_of s.views 0
     pub apart : Distinct name_of s.views
     pub covered : (n : ℕ) → n < made → IsNotEnded ended n → Has name_of s.views n
@@ -152,11 +159,37 @@ module _ {M C R G : Type 0} (setup : M → G) (stands : M → List (Entry C R) �
 module _ {C R G : Type 0} where
   -- the first view of the root
   abbrev pub first : G → View C R G
-  first key = record { kind = Pass; number = 0; phase = Idle; seen = []; mine = []; ticket = 0; left = []; right = []; made = 1; out = 0; ended = []; setup = Some key }
+  first key = record {
+    kind = Pass;
+    number = 0;
+    phase = Idle;
+    seen = [];
+    mine = [];
+    ticket = 0;
+    left = [];
+    right = [];
+    made = 1;
+    out = 0;
+    ended = [];
+    setup = Some key;
+  }
 
   -- a seat that was joined
   abbrev pub spent : View C R G
-  spent = record { kind = Spent; number = 0; phase = Idle; seen = []; mine = []; ticket = 0; left = []; right = []; made = 0; out = 0; ended = []; setup = None }
+  spent = record {
+    kind = Spent;
+    number = 0;
+    phase = Idle;
+    seen = [];
+    mine = [];
+    ticket = 0;
+    left = [];
+    right = [];
+    made = 0;
+    out = 0;
+    ended = [];
+    setup = None;
+  }
 
   -- the root, once it has split off a pass, and that pass
   abbrev pub forked : View C R G → View C R G
@@ -174,7 +207,13 @@ module _ {C R G : Type 0} where
 
   -- the root, once it has taken in a pass
   abbrev pub merged : View C R G → View C R G → View C R G
-  merged v w = record v { seen = longer v.seen w.seen; left = v.seen; right = w.seen; out = v.out - 1; ended = v.ended ++ record { number = w.number; calls = w.mine } ∷ [] }
+  merged v w = record v {
+    seen = longer v.seen w.seen;
+    left = v.seen;
+    right = w.seen;
+    out = v.out - 1;
+    ended = v.ended ++ record { number = w.number; calls = w.mine } ∷ [];
+  }
 
   -- a pass, once it has handed the lock on
   abbrev pub handed_on : View C R G → C → R → View C R G
@@ -188,7 +227,9 @@ module _ {M C R G : Type 0} where
   drew st m n m' = (n ≡ st.first → m' ≡ (record m.0 { ticket = n; phase = Waits n }, m.1)) × (n ≢ st.first → m' ≡ (record m.0 { ticket = n }, m.1))
 
   abbrev pub handed : Step (Option (Slot M C R)) → Me (Option (Slot M C R)) (View C R G) → ℕ → Me (Option (Slot M C R)) (View C R G) → Type 0
-  handed st m n m' = (d : Slot M C R) (l : LastCall C R) → m.1 ≡ (0, Some d) ∷ [] → d.last ≡ Some l → m' ≡ (handed_on m.0 l.command.value l.reply.value, [])
+  handed st m n m' =
+      (d : Slot M C R) (l : LastCall C R) → m.1 ≡ (0, Some d) ∷ [] → d.last ≡ Some l
+      → m' ≡ (handed_on m.0 l.command.value l.reply.value, [])
 
 module _ {M C R G : Type 0} (setup : M → G) (stands : M → List (Entry C R) → Type 0) (lawful : G → List (Entry C R) → Type 0) where
   -- what a seat is told that finds its turn: the whole history, and the machine that stands for it
@@ -202,7 +243,9 @@ module _ {M C R G : Type 0} (setup : M → G) (stands : M → List (Entry C R) �
 
   abbrev pub looked : Step (Option (Slot M C R)) → Me (Option (Slot M C R)) (View C R G) → ℕ → Me (Option (Slot M C R)) (View C R G) → Type 0
   looked st m n m' = (t : ℕ) → m.0.phase ≡ Waits t
-      → (n ≡ t → (log : List (Entry C R)) × (d : Slot M C R) × (m' ≡ (record m.0 { phase = Acts t; seen = log }, (0, Some d) ∷ m.1)) × Turn m.0 n log d)
+      → (n ≡ t
+      → (log : List (Entry C R)) × (d : Slot M C R)
+      × (m' ≡ (record m.0 { phase = Acts t; seen = log }, (0, Some d) ∷ m.1)) × Turn m.0 n log d)
       × (n ≢ t → m' ≡ m)
 
 module _ {C R G : Type 0} (lawful : G → List (Entry C R) → Type 0) where
@@ -214,6 +257,7 @@ module _ {C R G : Type 0} (lawful : G → List (Entry C R) → Type 0) where
     pub own : v.kind ≡ Pass → calls_of v.number v.seen ≡ v.mine
 
 module _ {M C R G : Type 0} (lawful : G → List (Entry C R) → Type 0) where
-  -- The ninth kind of step, a load that changes nothing. It tells a seat what the rule says of its view: after a split that the new pass knows a lawful history, and after a join that both old histories begin the longer one
+  -- The ninth kind of step, a load that changes nothing. It tells a seat what the rule says of its view: after a split that the new
+  -- pass knows a lawful history, and after a join that both old histories begin the longer one
   abbrev pub settled : Step (Option (Slot M C R)) → Me (Option (Slot M C R)) (View C R G) → ℕ → Me (Option (Slot M C R)) (View C R G) → Type 0
   settled st m n m' = (m' ≡ m) × Sound lawful m.0

@@ -101,4 +101,5 @@ module _ {M C R G : Type 0} (setup : M → G) (stands : M → List (Entry C R) �
     pub command_is : last.command.value ≡ command
     pub reply_is : last.reply.value ≡ reply
     pub kept : setup after.machine ≡ setup before.machine
-    pub event : (by : ℕ) (history : List (Entry C R)) → stands before.machine history → length history < 2 ^ 62 → stands after.machine (history ++ entry by command reply ∷ [])
+    pub event : (by : ℕ) (history : List (Entry C R)) → stands before.machine history → length history < 2 ^ 62
+        → stands after.machine (history ++ entry by command reply ∷ [])

@@ -38,8 +38,9 @@ impl<M: Machine> Model for TableLock<M> {
 
 /// What a thread calls with. It has no bytes, and belongs to one lock.
 ///
-/// Clauses see its number, the history that it has seen, its own calls in it, and the ticket that it looked at last.
-/// The root, which has the number 0, also knows how many passes were made, how many are out, and the number and the calls of each that was joined.
+/// Clauses see its number, the history that it has seen, its own calls in it, and the ticket that it looked at
+/// last. The root, which has the number 0, also knows how many passes were made, how many are out, and the
+/// number and the calls of each that was joined.
 #[derive(Drop)]
 pub struct Pass<M: Machine> {
     seat: SeatOf<M>,
@@ -161,17 +162,18 @@ impl<M: Machine> TableLock<M> {
         steps::learn(&self.table.shared, &mut pass.seat, seat);
     }
 
-    /// How often the bell was rung.
+    /// How often the bell was rung, of which nothing is claimed.
     pub fn rung(&self) -> u64 {
         self.doorbell.rung()
     }
 
-    /// Ends the rests of all threads, which rest for want of what the caller has just called for.
+    /// Rings the bell, which ends the rests of all threads.
     pub fn ring(&self) {
         self.doorbell.ring();
     }
 
-    /// Sleeps until the bell is rung or the time is up, if it was not rung since it was heard. It may also return for no reason.
+    /// Sleeps until the bell is rung, or for this long at most, and returns at once where `rung` answers no
+    /// more what was heard. It may also return for no reason. No clause says that it ends.
     pub fn rest<R: Wait>(&self, rt: &R, heard: u64, at_most: Duration) {
         self.doorbell.rest(rt, heard, at_most);
     }

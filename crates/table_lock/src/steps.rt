@@ -45,7 +45,9 @@ pub(crate) fn draw<M: Machine, R: Wait>(
 ) -> Result<u64, Spent>
     requires { IsAt table.now.table_id seat.old × IsIdle seat.old }
     ensures seat { IsSameSeat seat.old seat.new }
-    ensures drawn { MatchResult result (λ t. (t < 2 ^ 62) × (seat.new.me ≡ draws seat.old.me t)) (λ _. (n : ℕ) × (2 ^ 62 ≤ n) × (seat.new.me ≡ glances seat.old.me n)) }
+    ensures drawn { MatchResult result
+        (λ t. (t < 2 ^ 62) × (seat.new.me ≡ draws seat.old.me t))
+        (λ _. (n : ℕ) × (2 ^ 62 ≤ n) × (seat.new.me ≡ glances seat.old.me n)) }
 {
     let mut ticket = glance(table, seat);
     let mut waits = 0;
@@ -132,7 +134,8 @@ pub(crate) fn act<M: Machine>(
 ) -> M::Reply
     requires { IsAt table.now.table_id seat.old × IsActing M.setup M.stands M.lawful seat.old }
     ensures seat { IsSameSeat seat.old seat.new }
-    ensures called { (seat.new.me ≡ (handed_on seat.old.me.0 command result, [])) × ((key : M.Setup) → seat.old.me.0.setup ≡ Some key → M.lawful key seat.new.me.0.seen) }
+    ensures called { (seat.new.me ≡ (handed_on seat.old.me.0 command result, []))
+        × ((key : M.Setup) → seat.old.me.0.setup ≡ Some key → M.lawful key seat.new.me.0.seen) }
 {
     let slot = seat.slot_mut(table, 0);
     let reply = perform::<M>(slot, command);

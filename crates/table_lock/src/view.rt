@@ -19,7 +19,9 @@ pub enum Phase {
 
 /// Of a pass that was joined, its number and its calls.
 pub struct Item<C, R> {
+    /// Its number.
     pub number: u64,
+    /// Its calls, the earliest first.
     pub calls: LinkedList<Entry<C, R>>,
 }
 
