@@ -6,11 +6,14 @@ use table_lock::Machine;
 /// A total that wraps.
 #[derive(Drop)]
 pub struct Counter {
+    /// What it began with.
     pub first: u64,
+    /// What it stands at.
     pub total: u64,
 }
 
 impl Counter {
+    /// A counter that stands at `first`.
     pub fn new(first: u64) -> Counter
         ensures { (result.first ≡ first) × (result.total ≡ first) }
     {

@@ -10,7 +10,8 @@ use std::sync::Wait;
 use std::thread::{Threads, join};
 use table_lock::{Machine, Note, Pass, Spent, TableLock};
 
-/// Adds one number, and returns the total that it left. Spent where 2^62 tickets had been drawn.
+/// Adds one number, and returns the total that it left. Spent where 2^62 tickets had been drawn; the pass is
+/// then as before, but for the ticket that it looked at.
 pub fn add<R: Wait>(
     rt: &R,
     lock: &TableLock<Counter>,
@@ -19,7 +20,9 @@ pub fn add<R: Wait>(
 ) -> Result<u64, Spent>
     requires { IsPassOf lock.now pass.old }
     ensures same { IsPassOf lock.now pass.new × (pass.new.number ≡ pass.old.number) }
-    ensures ok { IfOk result (λ total. (pass.new.mine ≡ pass.old.mine ++ entry pass.old.number amount total ∷ []) × (total ≡ total_after lock.now.setup pass.new.seen) × IsLegal lock.now.setup pass.new.seen) }
+    ensures ok { IfOk result (λ total. (pass.new.mine ≡ pass.old.mine ++ entry pass.old.number amount total ∷ [])
+        × (total ≡ total_after lock.now.setup pass.new.seen)
+        × IsLegal lock.now.setup pass.new.seen) }
     ensures spent { IfErr result (λ _. (2 ^ 62 ≤ pass.new.ticket) × (pass.new ≡ record pass.old { ticket = pass.new.ticket })) }
 {
     lock.call(rt, pass, amount)
@@ -84,11 +87,15 @@ pub fn count_in_two<R: Threads + Wait + Sync>(
         rt,
         || -> (Pass<Counter>, bool)
             requires { IsPassOf shared.now one }
-            ensures { IsPassOf shared.entry.now result.0 × (result.0.number ≡ one.number) × (result.1 ≡ true → added result.0.mine ≡ added one.mine ++ first.entry.now) }
+            ensures { IsPassOf shared.entry.now result.0
+                × (result.0.number ≡ one.number)
+                × (result.1 ≡ true → added result.0.mine ≡ added one.mine ++ first.entry.now) }
         { add_all(rt, shared, one, first) },
         || -> (Pass<Counter>, bool)
             requires { IsPassOf shared.now two × IsNoteOf shared.now note }
-            ensures { IsPassOf shared.entry.now result.0 × (result.0.number ≡ two.number) × (result.1 ≡ true → added result.0.mine ≡ added two.mine ++ second.entry.now) }
+            ensures { IsPassOf shared.entry.now result.0
+                × (result.0.number ≡ two.number)
+                × (result.1 ≡ true → added result.0.mine ≡ added two.mine ++ second.entry.now) }
         { add_all_after(rt, shared, two, note, second) },
     );
     lock.join(&mut root, a.0);
@@ -111,7 +118,8 @@ pub fn call_twice<M: Machine, R: Wait>(
 ) -> Result<(M::Reply, M::Reply), Spent>
     requires { IsPassOf lock.now pass.old }
     ensures same { IsPassOf lock.now pass.new × (pass.new.number ≡ pass.old.number) }
-    ensures called { IfOk result (λ r. IsExtended M.lawful lock.now.setup pass.old pass.new (entry pass.old.number first r.0 ∷ entry pass.old.number second r.1 ∷ [])) }
+    ensures called { IfOk result (λ r. IsExtended M.lawful lock.now.setup pass.old pass.new
+        (entry pass.old.number first r.0 ∷ entry pass.old.number second r.1 ∷ [])) }
 {
     let one = lock.call(rt, pass, first)?;
     let two = lock.call(rt, pass, second)?;
