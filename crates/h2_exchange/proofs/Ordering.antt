@@ -8,7 +8,8 @@ use Rattle.h2_frames.specs.declared.frame.Frame.{Frame}
 use Rattle.h2_frames.specs.Layout.{frame_text, size_of}
 use Rattle.h2_exchange.specs.declared.role.Role.{Role}
 use Rattle.h2_exchange.specs.Exchange.{Step, Received, received_of, sent_of, received, sent, sent_text}
-use Rattle.h2_exchange.specs.Order.{Piece, received_bytes_of, sent_bytes_of, received_bytes, sent_bytes, end_of, peer_preface, own_preface, InOrder}
+use Rattle.rig_io.specs.Link as link
+use Rattle.h2_exchange.specs.Order.{Piece, received_bytes, sent_bytes, end_of, peer_preface, own_preface, InOrder}
 
 -- ---- lists that are cut in two ways
 
@@ -54,10 +55,10 @@ module _ {A : Type 0} where
 -- ---- lengths
 
 gots_push : (ps : List Piece) (p : Piece) → length (received_bytes ps) ≤ length (received_bytes (ps ++ p ∷ []))
-gots_push ps p = omega (arith, ap length (flat_map-append received_bytes_of ps (p ∷ [])), length-append (received_bytes ps) (received_bytes (p ∷ [])))
+gots_push ps p = omega (arith, ap length (flat_map-append link.received_bytes ps (p ∷ [])), length-append (received_bytes ps) (received_bytes (p ∷ [])))
 
 puts_front : (early late : List Piece) → length (sent_bytes early) ≤ length (sent_bytes (early ++ late))
-puts_front early late = omega (arith, ap length (flat_map-append sent_bytes_of early late), length-append (sent_bytes early) (sent_bytes late))
+puts_front early late = omega (arith, ap length (flat_map-append link.sent_bytes early late), length-append (sent_bytes early) (sent_bytes late))
 
 sent_front : (x more : List Step) → length (sent_text x) ≤ length (sent_text (x ++ more))
 sent_front x more =

@@ -16,4 +16,4 @@ front_of due bytes rest (f ∷ fs) (inr (bad, none, same)) = absurd (no_frames n
 
 pub complete_exchange_is_read : CompleteExchangeIsRead
 complete_exchange_is_read role limits heads ps out x rest is known =
-    record { known = known; front = front_of (peer_preface role) (received_bytes ps) rest (received x) is.frames; whole = λ clear. is.frames; text = is.text; order = is.order }
+    record { known = known; front = front_of (peer_preface role) (received_bytes ps) rest (received x) is.frames; whole = λ all clear. is.frames; text = is.text; order = is.order }

@@ -22,7 +22,8 @@ Outcome = Result (List Field) HpackFault
 abbrev pub ReadOver : List Field → ℕ → List Block → List Outcome → Type 0
 ReadOver entries max [] [] = Unit {0}
 ReadOver entries max (b ∷ bs) (Ok fields ∷ more) =
-    (after : State) × BlockAt 4096 (record { entries = entries; max = max; fields = [] }) b.text (Ok after) × (after.fields ≡ fields) × ReadOver after.entries after.max bs more
+    (after : State) × BlockAt 4096 (record { entries = entries; max = max; fields = [] }) b.text (Ok after) × (after.fields ≡ fields)
+    × ReadOver after.entries after.max bs more
 ReadOver entries max (b ∷ bs) (Err fault ∷ more) = BlockAt 4096 (record { entries = entries; max = max; fields = [] }) b.text (Err fault) × (more ≡ [])
 ReadOver entries max [] (outcome ∷ more) = ⊥
 ReadOver entries max (b ∷ bs) [] = ⊥

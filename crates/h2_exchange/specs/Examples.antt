@@ -77,7 +77,8 @@ pub record RefusedStream : Type 0 where
   pub malformed_first : stream_error_of Server (limits 2) two (head_on 5 (omega arith)) true ≡ Some code.PROTOCOL_ERROR
   pub taken : stream_error_of Server (limits 2) (two ++ Sent cancel ∷ []) (head_on 5 (omega arith)) false ≡ None
   pub not_by_a_client : stream_error_of Client (limits 0) (Received no_settings ∷ Sent head ∷ []) head false ≡ None
-  pub event : events Server (limits 2) (Ok request ∷ Ok request ∷ Ok request ∷ []) (two ++ Received (head_on 5 (omega arith)) ∷ []) ≡ Head 1 request false ∷ Head 3 request false ∷ Reset 5 code.REFUSED_STREAM ∷ []
+  pub event : events Server (limits 2) (Ok request ∷ Ok request ∷ Ok request ∷ []) (two ++ Received (head_on 5 (omega arith)) ∷ [])
+      ≡ Head 1 request false ∷ Head 3 request false ∷ Reset 5 code.REFUSED_STREAM ∷ []
 
 -- so many heads, on 1, 3, 5 and so on
 abbrev pub heads_upto : ℕ → List Step
@@ -106,9 +107,12 @@ pub record StreamNumbers : Type 0 where
 pub record SecondHead : Type 0 where
   pub no_end : stream_error_of Server (limits 100) begun head false ≡ Some code.PROTOCOL_ERROR
   pub as_trailers : events Server (limits 100) (Ok request ∷ Ok trailers ∷ []) (begun ++ Received last_head ∷ []) ≡ Head 1 request false ∷ Ended 1 ∷ []
-  pub in_two_frames : events Server (limits 100) (Ok request ∷ Ok trailers ∷ []) (begun ++ Received cut_head ∷ Received rest_of_head ∷ []) ≡ Head 1 request false ∷ Ended 1 ∷ []
-  pub malformed : events Server (limits 100) (Ok request ∷ Ok request ∷ []) (begun ++ Received last_head ∷ []) ≡ Head 1 request false ∷ Reset 1 code.PROTOCOL_ERROR ∷ []
-  pub behind_the_end : events Server (limits 100) (Ok request ∷ Ok trailers ∷ []) (begun ++ Received last_data ∷ Received last_head ∷ []) ≡ Head 1 request false ∷ Data 1 [] ∷ Ended 1 ∷ Reset 1 code.STREAM_CLOSED ∷ []
+  pub in_two_frames : events Server (limits 100) (Ok request ∷ Ok trailers ∷ []) (begun ++ Received cut_head ∷ Received rest_of_head ∷ [])
+      ≡ Head 1 request false ∷ Ended 1 ∷ []
+  pub malformed : events Server (limits 100) (Ok request ∷ Ok request ∷ []) (begun ++ Received last_head ∷ [])
+      ≡ Head 1 request false ∷ Reset 1 code.PROTOCOL_ERROR ∷ []
+  pub behind_the_end : events Server (limits 100) (Ok request ∷ Ok trailers ∷ []) (begun ++ Received last_data ∷ Received last_head ∷ [])
+      ≡ Head 1 request false ∷ Data 1 [] ∷ Ended 1 ∷ Reset 1 code.STREAM_CLOSED ∷ []
 
 -- What stops an exchange, with the place of its frame, where a server was sent the preface and an empty SETTINGS.
 abbrev pub stopped : List Outcome → Frame → Option Stop
@@ -127,9 +131,12 @@ pub record Stops : Type 0 where
   pub long_padding : stopped [] (Headers (body 12 1 (5 ∷ 131 ∷ []) (omega arith) (omega arith))) ≡ Some (Error code.PROTOCOL_ERROR 33)
   pub large_window : stopped [] (settings (0 ∷ 4 ∷ 128 ∷ 0 ∷ 0 ∷ 0 ∷ []) (omega arith)) ≡ Some (Error code.FLOW_CONTROL_ERROR 33)
   pub push_promise : stopped [] (PushPromise (body 0 1 [] (omega arith) (omega arith))) ≡ Some (Error code.PROTOCOL_ERROR 33)
-  pub many_frames : stop_of Server (limits 100) [] (Received no_settings ∷ Received cut_head ∷ replicate 64 (Received more_of_head)) ≡ Some (Calm cause.HeaderFrames)
+  pub many_frames : stop_of Server (limits 100) [] (Received no_settings ∷ Received cut_head ∷ replicate 64 (Received more_of_head))
+      ≡ Some (Calm cause.HeaderFrames)
   pub enough_frames : stop_of Server (limits 100) [] (Received no_settings ∷ Received cut_head ∷ replicate 63 (Received more_of_head)) ≡ None
-  pub raised_window : stop_of Server (limits 100) (Ok request ∷ []) (begun ++ Received update_of_25 ∷ Received (settings (0 ∷ 4 ∷ 127 ∷ 255 ∷ 255 ∷ 255 ∷ []) (omega arith)) ∷ []) ≡ Some (Error code.FLOW_CONTROL_ERROR 55)
+  pub raised_window : stop_of Server (limits 100) (Ok request ∷ [])
+      (begun ++ Received update_of_25 ∷ Received (settings (0 ∷ 4 ∷ 127 ∷ 255 ∷ 255 ∷ 255 ∷ []) (omega arith)) ∷ [])
+      ≡ Some (Error code.FLOW_CONTROL_ERROR 55)
   pub nothing : stop_of Server (limits 100) (Ok request ∷ []) (begun ++ Received ping ∷ Received goaway ∷ []) ≡ None
 
 -- What the bytes break that are no frame: a preface that is none, and a length of 16,385.
@@ -141,7 +148,8 @@ long_frame = 0 ∷ 64 ∷ 1 ∷ 11 ∷ 0 ∷ 0 ∷ 0 ∷ 0 ∷ 0 ∷ []
 
 pub record RestStops : Type 0 where
   pub preface_is_none : IsBroken Server (limits 100) [] bad_preface [] bad_preface code.PROTOCOL_ERROR 0
-  pub long_length : IsBroken Server (limits 100) [] (preface ++ frame_text no_settings ++ long_frame) (Received no_settings ∷ []) long_frame code.FRAME_SIZE_ERROR 33
+  pub long_length : IsBroken Server (limits 100) [] (preface ++ frame_text no_settings ++ long_frame)
+      (Received no_settings ∷ []) long_frame code.FRAME_SIZE_ERROR 33
 
 -- A block may have 65,536 bytes and 64 frames, and no more.
 pub record BlockLimits : Type 0 where
@@ -162,16 +170,20 @@ pub record CutRequests : Type 0 where
   pub two : resets_past_one (cut_calls ++ Received (cancel_on 3 (omega arith)) ∷ []) ≡ true
   pub sent_too : resets_past_one (cut_calls ++ Sent (cancel_on 3 (omega arith)) ∷ []) ≡ true
   pub one_stream_twice : resets_past_one (cut_calls ++ Received cancel ∷ []) ≡ false
-  pub after_an_end : resets_past_one (begun ++ Received last_data ∷ Received cancel ∷ Received (head_on 3 (omega arith)) ∷ Received (cancel_on 3 (omega arith)) ∷ []) ≡ false
+  pub after_an_end : resets_past_one
+      (begun ++ Received last_data ∷ Received cancel ∷ Received (head_on 3 (omega arith)) ∷ Received (cancel_on 3 (omega arith)) ∷ []) ≡ false
   pub end_of_a_dead_stream : resets_past_one (cut_calls ++ Received last_data ∷ Received (cancel_on 3 (omega arith)) ∷ []) ≡ true
-  pub whole_request : resets_past_one (begun ++ Received empty_message ∷ Received cancel ∷ Received (head_on 3 (omega arith)) ∷ Received (cancel_on 3 (omega arith)) ∷ []) ≡ false
+  pub whole_request : resets_past_one
+      (begun ++ Received empty_message ∷ Received cancel ∷ Received (head_on 3 (omega arith)) ∷ Received (cancel_on 3 (omega arith)) ∷ []) ≡ false
 
 -- What is given of frames that a side need not mind.
 pub record QuietFrames : Type 0 where
-  pub skipped : events Server (limits 100) (Ok request ∷ Ok request ∷ []) (Received no_settings ∷ Received (head_on 3 (omega arith)) ∷ Received head ∷ []) ≡ Head 3 request false ∷ []
+  pub skipped : events Server (limits 100) (Ok request ∷ Ok request ∷ []) (Received no_settings ∷ Received (head_on 3 (omega arith)) ∷ Received head ∷ [])
+      ≡ Head 3 request false ∷ []
   pub behind_an_error : events Server (limits 100) (Ok request ∷ []) (Received no_settings ∷ Received rest_of_head ∷ Received head ∷ []) ≡ []
   pub reset_by_client : events Client (limits 100) (Ok response ∷ []) (Received no_settings ∷ Sent head ∷ Sent cancel ∷ Received head ∷ []) ≡ []
-  pub trailers_to_client : events Client (limits 100) (Ok response ∷ Ok trailers ∷ []) (Received no_settings ∷ Sent last_head ∷ Received head ∷ Received last_head ∷ []) ≡ Head 1 response false ∷ Head 1 trailers true ∷ []
+  pub trailers_to_client : events Client (limits 100) (Ok response ∷ Ok trailers ∷ [])
+      (Received no_settings ∷ Sent last_head ∷ Received head ∷ Received last_head ∷ []) ≡ Head 1 response false ∷ Head 1 trailers true ∷ []
   pub goes_away : events Server (limits 100) [] (Received no_settings ∷ Received goaway ∷ []) ≡ GoneAway 1 code.NO_ERROR ∷ []
 
 -- Heads that are malformed.
@@ -223,7 +235,8 @@ pub record Responses : Type 0 where
   pub behind_the_end : IsResponse response (parts 1 (trailers_only ∷ []) (last_head ∷ thirty_bytes ∷ [])) [] (Trailers trailers_only) → ⊥
   pub no_message : IsResponse response (parts 1 (response ∷ trailers ∷ []) (head ∷ last_head ∷ [])) [] (Trailers trailers) → ⊥
   pub no_status : IsResponse response (parts 1 (trailers ∷ []) (last_head ∷ [])) [] (Trailers trailers) → ⊥
-  pub pseudo_trailers : IsResponse response (parts 1 (response ∷ trailers_only ∷ []) (head ∷ thirty_bytes ∷ last_head ∷ [])) (replicate 30 7) (Trailers trailers_only) → ⊥
+  pub pseudo_trailers : IsResponse response (parts 1 (response ∷ trailers_only ∷ []) (head ∷ thirty_bytes ∷ last_head ∷ []))
+      (replicate 30 7) (Trailers trailers_only) → ⊥
 
 -- What a server reads of a request: a head, DATA and an end, where a reset may follow it; and what is no request.
 pub record Requests : Type 0 where

@@ -26,7 +26,8 @@ use Rattle.h2_exchange.specs.Windows.{granted_on, spent_on, spent}
 
 -- the events of an exchange stay where it goes on
 abbrev pub EventsStay : Type 0
-EventsStay = (role : Role) (limits : H2Limits) (heads : List Outcome) (x more : List Step) → IsPrefix (events role limits heads x) (events role limits heads (x ++ more))
+EventsStay = (role : Role) (limits : H2Limits) (heads : List Outcome) (x more : List Step) →
+    IsPrefix (events role limits heads x) (events role limits heads (x ++ more))
 
 -- what stopped an exchange stays what stops it, and nothing comes behind
 abbrev pub StopsStay : Type 0
@@ -39,13 +40,14 @@ StopsStay =
 pub record LaterBlocksChangeNothing : Type 0 where
   pub looked_at : (role : Role) (limits : H2Limits) (heads more : List Outcome) (x : List Step) → AreEnough role limits heads x →
       (stop_of role limits (heads ++ more) x ≡ stop_of role limits heads x) × (events role limits (heads ++ more) x ≡ events role limits heads x)
-  pub completed : (role : Role) (limits : H2Limits) (heads : List Outcome) (x : List Step) → length (blocks (received x)) ≤ length heads → AreEnough role limits heads x
+  pub completed : (role : Role) (limits : H2Limits) (heads : List Outcome) (x : List Step) → length (blocks (received x)) ≤ length heads →
+      AreEnough role limits heads x
 
 -- an exchange of all frames is one that is read
 abbrev pub CompleteExchangeIsRead : Type 0
 CompleteExchangeIsRead =
     (role : Role) (limits : H2Limits) (heads : List Outcome) (ps : List Piece) (out : List ℕ) (x : List Step) (rest : List ℕ) →
-    IsExchange role ps out x rest → AreKnown role limits heads x → IsReadExchange role limits heads ps out x rest
+    IsExchange role ps out x rest → AreKnown role limits heads x → IsReadExchange role limits heads ps out x true rest
 
 -- whatever outcomes are known, an exchange has one stop and one list of events
 abbrev pub ExchangeIsDetermined : Type 0
@@ -56,7 +58,8 @@ ExchangeIsDetermined =
 -- one more frame adds its events, where nothing stops
 abbrev pub EventsGoOn : Type 0
 EventsGoOn =
-    (role : Role) (limits : H2Limits) (heads : List Outcome) (x : List Step) (s : Step) → stop_of role limits heads x ≡ None → stop_at role limits heads x s ≡ None →
+    (role : Role) (limits : H2Limits) (heads : List Outcome) (x : List Step) (s : Step) → stop_of role limits heads x ≡ None →
+    stop_at role limits heads x s ≡ None →
     (stop_of role limits heads (x ++ s ∷ []) ≡ None) × (events role limits heads (x ++ s ∷ []) ≡ events role limits heads x ++ events_of role limits heads x s)
 
 -- calls and answers stay where more events come
@@ -70,16 +73,20 @@ abbrev pub ShownCallsStay : Type 0 → Type 0 → Type 0
 ShownCallsStay M E = (cs more : List (Call M E)) → IsPrefix (shown cs) (shown (cs ++ more))
 
 abbrev pub AnswersStay : Type 0 → Type 0
-AnswersStay E = (status_of : List Field → E) (unknown : E) (es more : List Event) → IsPrefix (answers status_of unknown es) (answers status_of unknown (es ++ more))
+AnswersStay E = (status_of : List Field → E) (unknown : E) (es more : List Event) →
+    IsPrefix (answers status_of unknown es) (answers status_of unknown (es ++ more))
 
 -- all of the items are a first part of them
 abbrev pub AllIsPrefix : Type 0 → Type 0
-AllIsPrefix E = (messages : List (List ℕ)) (rest : List ℕ) (end : Option E) (items : List (Item E)) → IsAllOf messages rest end items → IsPrefixOf messages rest end items
+AllIsPrefix E = (messages : List (List ℕ)) (rest : List ℕ) (end : Option E) (items : List (Item E)) → IsAllOf messages rest end items →
+    IsPrefixOf messages rest end items
 
 -- What a side sends goes on with a received frame, and with a frame that may be sent and stands where it may.
-pub record SendingGoesOn (role : Role) (limits : H2Limits) (heads : List Outcome) (is_asked : List Step → ℕ → ErrorCode → Bool) (bytes rest : List ℕ) (x : List Step) : Type 0 where
+pub record SendingGoesOn (role : Role) (limits : H2Limits) (heads : List Outcome) (is_asked : List Step → ℕ → ErrorCode → Bool)
+    (bytes rest : List ℕ) (x : List Step) : Type 0 where
   pub received : (f : Frame) → SendsOnly role limits heads is_asked bytes rest x → SendsOnly role limits heads is_asked bytes rest (x ++ Received f ∷ [])
-  pub sent : (f : Frame) → MaySend role limits heads is_asked bytes rest x f → HasPlace x f → SendsOnly role limits heads is_asked bytes rest x → SendsOnly role limits heads is_asked bytes rest (x ++ Sent f ∷ [])
+  pub sent : (f : Frame) → MaySend role limits heads is_asked bytes rest x f → HasPlace x f → SendsOnly role limits heads is_asked bytes rest x →
+      SendsOnly role limits heads is_asked bytes rest (x ++ Sent f ∷ [])
 
 abbrev pub OnlyTheseAreSent : Type 0
 OnlyTheseAreSent =
@@ -94,7 +101,8 @@ pub record StreamsEnd : Type 0 where
 
 -- what one more frame of a side adds to the sums of its windows
 pub record WindowSumsGrow : Type 0 where
-  pub granted_push : (id : ℕ) (fs : List Frame) (f : Frame) → granted_on id (fs ++ f ∷ []) ≡ granted_on id fs + (if is_window_update f && stream_of f == id then increment_of f else 0)
+  pub granted_push : (id : ℕ) (fs : List Frame) (f : Frame) →
+      granted_on id (fs ++ f ∷ []) ≡ granted_on id fs + (if is_window_update f && stream_of f == id then increment_of f else 0)
   pub spent_on_push : (id : ℕ) (fs : List Frame) (f : Frame) → spent_on id (fs ++ f ∷ []) ≡ spent_on id fs + (if stream_of f == id then counted f else 0)
   pub spent_push : (fs : List Frame) (f : Frame) → spent (fs ++ f ∷ []) ≡ spent fs + counted f
 
@@ -106,13 +114,16 @@ pub record HeaderBlocksGrow : Type 0 where
 -- what one encoder wrote, under the table sizes that its peer announced, is what the peer reads
 abbrev pub WrittenBlocksAreRead : Type 0
 WrittenBlocksAreRead =
-    (style : Style) (x : List Step) (lists : List (List Field)) (last : Encoder) → All IsWritable lists → AreWritten (fresh style) [] x lists last → AreRead (sent x) (map Ok lists)
+    (style : Style) (x : List Step) (lists : List (List Field)) (last : Encoder) → All IsWritable lists → AreWritten (fresh style) [] x lists last →
+    AreRead (sent x) (map Ok lists)
 
 -- The order of received and sent frames lasts: through a further call of the link, where all received frames were given
 -- before it, and through further frames, where all that was placed was sent before them.
 pub record OrderIsKept : Type 0 where
-  pub told : (role : Role) (ps : List Piece) (p : Piece) (x : List Step) → (0 < length (received x) → end_of (peer_preface role) (received x) ≤ length (received_bytes ps)) → InOrder role ps x → InOrder role (ps ++ p ∷ []) x
-  pub more : (role : Role) (ps : List Piece) (x more : List Step) → length (sent_bytes ps) ≤ length (own_preface role ++ sent_text x) → InOrder role ps x → InOrder role ps (x ++ more)
+  pub told : (role : Role) (ps : List Piece) (p : Piece) (x : List Step) →
+      (0 < length (received x) → end_of (peer_preface role) (received x) ≤ length (received_bytes ps)) → InOrder role ps x → InOrder role (ps ++ p ∷ []) x
+  pub more : (role : Role) (ps : List Piece) (x more : List Step) → length (sent_bytes ps) ≤ length (own_preface role ++ sent_text x) →
+      InOrder role ps x → InOrder role ps (x ++ more)
 
 -- the calls that an exchange spells stand in their places
 abbrev pub CallsAreInPlace : Type 0 → Type 0 → Type 0

@@ -1,6 +1,8 @@
 -- The exchange of what a link told: its frames, and the order of received and sent ones.
 use Rattle.std.specs.Prelude.{◌≡◌, ℕ, ◌+◌, ◌<◌, ◌≤◌, List, [], ◌∷◌, ◌++◌, length, drop, sum_by, ◌⊎◌}
 use Rattle.std.specs.List.{flat_map}
+pub use Rattle.rig_io.specs.Link.{Piece}
+use Rattle.rig_io.specs.Link as link
 use Rattle.h2_frames.specs.declared.code.ErrorCode.{ErrorCode}
 use Rattle.h2_frames.specs.declared.code.TheConstants.ErrorCode as code
 use Rattle.h2_frames.specs.declared.frame.Frame.{Frame}
@@ -12,23 +14,11 @@ use Rattle.h2_exchange.specs.Exchange.{Step, Received, received, sent_text}
 
 -- ---- what a link tells, in the order of its calls
 
-pub data Piece : Type 0 where
-  Got : List ℕ → Piece
-  Put : List ℕ → Piece
-
-abbrev pub received_bytes_of : Piece → List ℕ
-received_bytes_of (Got bytes) = bytes
-received_bytes_of (Put bytes) = []
-
-abbrev pub sent_bytes_of : Piece → List ℕ
-sent_bytes_of (Got bytes) = []
-sent_bytes_of (Put bytes) = bytes
-
 abbrev pub received_bytes : List Piece → List ℕ
-received_bytes ps = flat_map received_bytes_of ps
+received_bytes ps = flat_map link.received_bytes ps
 
 abbrev pub sent_bytes : List Piece → List ℕ
-sent_bytes ps = flat_map sent_bytes_of ps
+sent_bytes ps = flat_map link.sent_bytes ps
 
 -- ---- frames
 
@@ -65,7 +55,8 @@ end_of due frames = length due + sum_by size_of frames
 abbrev pub InOrder : Role → List Piece → List Step → Type 0
 InOrder role ps x =
     (early late : List Piece) (before behind : List Step) (f : Frame) → ps ≡ early ++ late → x ≡ before ++ Received f ∷ behind →
-    length (received_bytes early) < end_of (peer_preface role) (received before ++ f ∷ []) → length (sent_bytes early) ≤ length (own_preface role ++ sent_text before)
+    length (received_bytes early) < end_of (peer_preface role) (received before ++ f ∷ []) →
+    length (sent_bytes early) ≤ length (own_preface role ++ sent_text before)
 
 -- The exchange of what a link told, with the bytes that wait to be sent and the received bytes that are no whole frame.
 pub record IsExchange (role : Role) (ps : List Piece) (out : List ℕ) (x : List Step) (rest : List ℕ) : Type 0 where

@@ -18,19 +18,22 @@ abbrev pub ReadFirst : List Field → ℕ → List Block → List Outcome → Ty
 ReadFirst entries max bs [] = Unit {0}
 ReadFirst entries max [] (outcome ∷ more) = ⊥
 ReadFirst entries max (b ∷ bs) (Ok fields ∷ more) =
-    (after : State) × BlockAt 4096 (record { entries = entries; max = max; fields = [] }) b.text (Ok after) × (after.fields ≡ fields) × ReadFirst after.entries after.max bs more
+    (after : State) × BlockAt 4096 (record { entries = entries; max = max; fields = [] }) b.text (Ok after) × (after.fields ≡ fields)
+    × ReadFirst after.entries after.max bs more
 ReadFirst entries max (b ∷ bs) (Err fault ∷ more) = BlockAt 4096 (record { entries = entries; max = max; fields = [] }) b.text (Err fault) × (more ≡ [])
 
 -- The content of the block that a received frame completes is looked at: nothing stopped the exchange before, the frame
 -- breaks no rule by itself, and its block isn't too large.
 abbrev pub is_looked_at : Role → H2Limits → List Outcome → List Step → Frame → Bool
 is_looked_at role limits heads past f =
-    not (is_some (stop_of role limits heads past)) && not (is_some (frame_error role past f)) && not (is_some (block_stop (block_with (open_block (received past)) f)))
+    not (is_some (stop_of role limits heads past)) && not (is_some (frame_error role past f))
+    && not (is_some (block_stop (block_with (open_block (received past)) f)))
 
 -- each block that is looked at has its outcome
 abbrev pub AreEnough : Role → H2Limits → List Outcome → List Step → Type 0
 AreEnough role limits heads x =
-    (past behind : List Step) (f : Frame) (b : Block) → x ≡ past ++ Received f ∷ behind → is_looked_at role limits heads past f ≡ true → completed (received past) f ≡ Some b →
+    (past behind : List Step) (f : Frame) (b : Block) → x ≡ past ++ Received f ∷ behind → is_looked_at role limits heads past f ≡ true →
+    completed (received past) f ≡ Some b →
     length (blocks (received past)) < length heads
 
 -- These are outcomes of the received blocks, and all that the exchange asks for.
@@ -43,11 +46,12 @@ abbrev pub BeginWithFrames : List ℕ → List ℕ → List Frame → Type 0
 BeginWithFrames due bytes [] = Unit {0}
 BeginWithFrames due bytes (f ∷ fs) = (rest : List ℕ) × MatchesPreface due bytes × Reads (drop (length due) bytes) (f ∷ fs) rest
 
--- The exchange of what a link told, as far as it is read: its frames stand first in what was received, and are all of them
--- unless one stops it.
-pub record IsReadExchange (role : Role) (limits : H2Limits) (heads : List Outcome) (ps : List Piece) (out : List ℕ) (x : List Step) (rest : List ℕ) : Type 0 where
+-- The exchange of what a link told, as far as it is read: its frames stand first in what was received. Where all was read
+-- they are all of them, unless one stops it; a side that halts, or has no memory, may leave whole frames unread.
+pub record IsReadExchange (role : Role) (limits : H2Limits) (heads : List Outcome) (ps : List Piece) (out : List ℕ)
+    (x : List Step) (is_all : Bool) (rest : List ℕ) : Type 0 where
   pub known : AreKnown role limits heads x
   pub front : BeginWithFrames (peer_preface role) (received_bytes ps) (received x)
-  pub whole : stop_of role limits heads x ≡ None → AreFrames (peer_preface role) (received_bytes ps) (received x) rest
+  pub whole : is_all ≡ true → stop_of role limits heads x ≡ None → AreFrames (peer_preface role) (received_bytes ps) (received x) rest
   pub text : own_preface role ++ sent_text x ≡ sent_bytes ps ++ out
   pub order : InOrder role ps x

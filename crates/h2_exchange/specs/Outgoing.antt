@@ -32,25 +32,32 @@ IsErrorReset role limits heads past f =
 
 -- A frame that may be sent behind these ones, where these resets are asked for, and these bytes were received, with this
 -- rest that is no whole frame.
-pub data MaySend (role : Role) (limits : H2Limits) (heads : List Outcome) (is_asked : List Step → ℕ → ErrorCode → Bool) (bytes rest : List ℕ) (past : List Step) (f : Frame) : Type 0 where
+pub data MaySend (role : Role) (limits : H2Limits) (heads : List Outcome) (is_asked : List Step → ℕ → ErrorCode → Bool)
+    (bytes rest : List ℕ) (past : List Step) (f : Frame) : Type 0 where
   -- the settings that a side begins with
   opens : sent past ≡ [] → frame_text f ≡ text_of 4 0 0 (own_settings role limits) → MaySend role limits heads is_asked bytes rest past f
   -- an acknowledgement in its turn
-  acknowledges : ((is_settings f || is_ping f) && has_ack f) ≡ true → AreAcknowledged (past ++ Sent f ∷ []) → MaySend role limits heads is_asked bytes rest past f
+  acknowledges : ((is_settings f || is_ping f) && has_ack f) ≡ true → AreAcknowledged (past ++ Sent f ∷ []) →
+      MaySend role limits heads is_asked bytes rest past f
   -- credit for all streams together, up to the whole window
-  credits : (n : ℕ) → frame_text f ≡ update_text 0 n → 0 < n → 65535 + granted_on 0 (sent past) + n ≤ limits.window + spent (received past) → MaySend role limits heads is_asked bytes rest past f
+  credits : (n : ℕ) → frame_text f ≡ update_text 0 n → 0 < n → 65535 + granted_on 0 (sent past) + n ≤ limits.window + spent (received past) →
+      MaySend role limits heads is_asked bytes rest past f
   -- credit for a live stream, up to the whole window
-  credits_stream : (id n : ℕ) → frame_text f ≡ update_text id n → 0 < n → is_live role past id ≡ true → granted_on id (sent past) + n ≤ spent_on id (received past) → MaySend role limits heads is_asked bytes rest past f
+  credits_stream : (id n : ℕ) → frame_text f ≡ update_text id n → 0 < n → is_live role past id ≡ true →
+      granted_on id (sent past) + n ≤ spent_on id (received past) → MaySend role limits heads is_asked bytes rest past f
   -- the reset of a stream error
   resets_error : IsErrorReset role limits heads past f → MaySend role limits heads is_asked bytes rest past f
   -- a reset that is asked for, of a live stream
-  resets : (id : ℕ) (why : ErrorCode) → is_live role past id ≡ true → is_asked past id why ≡ true → frame_text f ≡ reset_text id why → MaySend role limits heads is_asked bytes rest past f
+  resets : (id : ℕ) (why : ErrorCode) → is_live role past id ≡ true → is_asked past id why ≡ true → frame_text f ≡ reset_text id why →
+      MaySend role limits heads is_asked bytes rest past f
   -- HEADERS of a new stream
   begins_stream : begins role (stream_of f) past (Sent f) ≡ true → MaySend role limits heads is_asked bytes rest past f
   -- a head, data or trailers on a stream that is open for sending
-  carries : (is_data f || is_headers f || is_continuation f) ≡ true → is_open role past (stream_of f) ≡ true → MaySend role limits heads is_asked bytes rest past f
+  carries : (is_data f || is_headers f || is_continuation f) ≡ true → is_open role past (stream_of f) ≡ true →
+      MaySend role limits heads is_asked bytes rest past f
   -- GOAWAY, where the connection ends
-  goes_away : (why : ErrorCode) → EndsWith role limits heads bytes past rest why → frame_text f ≡ goaway_text role (before_stop role limits heads past) why → MaySend role limits heads is_asked bytes rest past f
+  goes_away : (why : ErrorCode) → EndsWith role limits heads bytes past rest why → frame_text f ≡ goaway_text role (before_stop role limits heads past) why →
+      MaySend role limits heads is_asked bytes rest past f
 
 -- a sent frame stands in no header block of another one, and behind no GOAWAY
 pub record HasPlace (past : List Step) (f : Frame) : Type 0 where

@@ -34,7 +34,8 @@ end_if false = None
 end_if true = Some tt
 
 -- What frames spell on a stream that a client began: this head, whole messages, a cut rest, and whether its side ended.
-pub record CarriesRequest (heads : List (List Field)) (frames : List Frame) (id : ℕ) (head : List Field) (messages : List (List ℕ)) (rest : List ℕ) (ended : Bool) : Type 0 where
+pub record CarriesRequest (heads : List (List Field)) (frames : List Frame) (id : ℕ) (head : List Field)
+    (messages : List (List ℕ)) (rest : List ℕ) (ended : Bool) : Type 0 where
   pub bytes : List ℕ
   pub request : IsRequest head (parts id heads frames) bytes ended
   pub cut : messages_of 4294967295 bytes ≡ record { messages = messages; rest = rest; ending = NeedMore }

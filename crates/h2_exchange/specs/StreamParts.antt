@@ -109,7 +109,8 @@ module _ {E : Type 0} (head : List Field) (read_end : List Field → E) where
   end_by other = None
 
   -- What frames spell on a stream, once their blocks are read: whole messages, a cut rest, and an end.
-  pub record CarriesResponse (heads : List (List Field)) (frames : List Frame) (id : ℕ) (messages : List (List ℕ)) (rest : List ℕ) (end : Option E) : Type 0 where
+  pub record CarriesResponse (heads : List (List Field)) (frames : List Frame) (id : ℕ) (messages : List (List ℕ))
+      (rest : List ℕ) (end : Option E) : Type 0 where
     pub bytes : List ℕ
     pub close : StreamEnd
     pub response : IsResponse head (parts id heads frames) bytes close
@@ -121,7 +122,8 @@ module _ {E : Type 0} (head : List Field) (read_end : List Field → E) where
   abbrev pub AnswersBegin : List Step → (ℕ → List (Item E)) → Type 0
   AnswersBegin x owed =
       (heads : List (List Field)) × AreRead (sent x) (map Ok heads)
-      × ((id : ℕ) → (messages : List (List ℕ)) × (rest : List ℕ) × (end : Option E) × CarriesResponse heads (sent x) id messages rest end × IsPrefixOf messages rest end (owed id)
+      × ((id : ℕ) → (messages : List (List ℕ)) × (rest : List ℕ) × (end : Option E) × CarriesResponse heads (sent x) id messages rest end
+      × IsPrefixOf messages rest end (owed id)
       × (has_begun (parts id heads (sent x)) ≡ true → IsMessageFirst (owed id)))
 
   -- The sent frames can be read, and spell on this stream all that it is owed.

@@ -54,7 +54,8 @@ pub record NeedsMore (old new : Reader) : Type 0 where
 abbrev pub Breaks : Reader → ErrorCode → ℕ → Type 0
 Breaks r code place =
     ((MatchesPreface r.awaited r.held → ⊥) × (code ≡ codes_of.PROTOCOL_ERROR) × (place ≡ 0))
-    ⊎ (MatchesPreface r.awaited r.held × IsTooLong (drop (length r.awaited) r.held) × (code ≡ codes_of.FRAME_SIZE_ERROR) × (place ≡ place_at (r.place + length r.awaited)))
+    ⊎ (MatchesPreface r.awaited r.held × IsTooLong (drop (length r.awaited) r.held) × (code ≡ codes_of.FRAME_SIZE_ERROR)
+    × (place ≡ place_at (r.place + length r.awaited)))
 
 pub record Refuses (old : Reader) (code : ErrorCode) (place : ℕ) (new : Reader) : Type 0 where
   pub dead : new.refusal ≡ Some (Was.Broken code place)
@@ -101,14 +102,16 @@ place_after due frames = place_at (length due + sum_by size_of frames)
 abbrev pub IsBroken : List ℕ → List ℕ → List Frame → ErrorCode → ℕ → Type 0
 IsBroken due bytes frames code place =
     ((MatchesPreface due bytes → ⊥) × (frames ≡ []) × (code ≡ codes_of.PROTOCOL_ERROR) × (place ≡ 0))
-    ⊎ ((rest : List ℕ) × MatchesPreface due bytes × Reads (drop (length due) bytes) frames rest × IsTooLong rest × (code ≡ codes_of.FRAME_SIZE_ERROR) × (place ≡ place_after due frames))
+    ⊎ ((rest : List ℕ) × MatchesPreface due bytes × Reads (drop (length due) bytes) frames rest × IsTooLong rest × (code ≡ codes_of.FRAME_SIZE_ERROR)
+    × (place ≡ place_after due frames))
 
 -- ---- a reader
 
 -- a reader that has not refused, for what it was fed and the frames that it gave
 abbrev pub StandsAlive : List ℕ → Reader → List ℕ → List Frame → Type 0
 StandsAlive due r bytes [] = (r.awaited ≡ due) × (r.held ≡ bytes) × (r.place ≡ 0)
-StandsAlive due r bytes (f ∷ fs) = (r.awaited ≡ []) × MatchesPreface due bytes × Reads (drop (length due) bytes) (f ∷ fs) r.held × (r.place ≡ place_after due (f ∷ fs))
+StandsAlive due r bytes (f ∷ fs) = (r.awaited ≡ []) × MatchesPreface due bytes × Reads (drop (length due) bytes) (f ∷ fs) r.held
+    × (r.place ≡ place_after due (f ∷ fs))
 
 -- these frames stand first behind what is due, and then another whole one
 abbrev pub HasAnother : List ℕ → List ℕ → List Frame → Type 0
