@@ -10,7 +10,7 @@ use bytes::Bytes;
 use std::alloc::{AllocError, Global};
 use std::marker::Model;
 
-/// What a client writes before its first frame.
+/// What a client writes before its first frame (RFC 9113, section 3.4).
 pub const PREFACE: &[u8] = b"PRI * HTTP/2.0\r\n\r\nSM\r\n\r\n";
 
 const MAX_LENGTH: u32 = 16_384;
@@ -18,10 +18,13 @@ const MAX_LENGTH: u32 = 16_384;
 /// What a reader says next.
 #[derive(Debug, Drop)]
 pub enum FrameNext {
+    /// The next frame.
     Frame(Frame),
+    /// What was fed and not yet taken is less than a whole frame.
     NeedMore,
-    /// The code, and the place of the frame that was refused.
+    /// The code, and the place of the frame that was refused. From then on it is the answer.
     Refused(ErrorCode, u64),
+    /// There was no memory. From then on it is the answer.
     NoMemory,
 }
 

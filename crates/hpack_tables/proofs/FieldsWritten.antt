@@ -24,6 +24,12 @@ one_front (x ∷ xs) (suc i) f lt e = one_front xs i f (omega (arith, lt)) e ∙
     same : suc (i + 1) ≡ suc i + 1
     same = omega arith
 
+pub none_left : (fs : List Field) (i : ℕ) → length fs ≤ i → drop i fs ≡ []
+none_left [] zero le = refl
+none_left [] (suc i) le = refl
+none_left (x ∷ xs) zero le = absurd (omega arith)
+none_left (x ∷ xs) (suc i) le = none_left xs i (omega (arith, le))
+
 pub one_more : (style : Style) (max : ℕ) (all entries : List Field) (start : List ℕ) (now_entries : List Field) (now : List ℕ) (i : ℕ) (f : Field) (own_max : ℕ) (next_entries : List Field) (next : List ℕ) →
     own_max ≡ max → GoesOn style max all entries start now_entries now (drop i all) → i < length all → f ≡ get_or all i f →
     (first : List ℕ) × IsFieldText style own_max f now_entries first next_entries × (next ≡ now ++ first) →
@@ -40,12 +46,6 @@ all_written style max all entries start now_entries now i so_far le =
     let left : AreFieldTexts style max (drop i all) now_entries [] now_entries = rw (none_left all i le) (refl, refl) in
     let w = so_far [] now_entries left in
     (w.0, w.1, sym (w.2 ∙ append-nil now))
-  where
-    none_left : (fs : List Field) (i : ℕ) → length fs ≤ i → drop i fs ≡ []
-    none_left [] zero le = refl
-    none_left [] (suc i) le = refl
-    none_left (x ∷ xs) zero le = absurd (omega arith)
-    none_left (x ∷ xs) (suc i) le = none_left xs i (omega (arith, le))
 
 -- one field is no larger than all of them
 pub item_small : (fs : List Field) (i : ℕ) (f : Field) → i < length fs → f ≡ get_or fs i f → size_of f ≤ sum_by size_of fs

@@ -1,5 +1,6 @@
 pub mod Blocks
 pub mod EntriesFound
+pub mod FieldBytes
 pub mod FieldTests
 pub mod FieldsRead
 pub mod FieldsWritten

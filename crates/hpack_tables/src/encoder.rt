@@ -1,6 +1,7 @@
 //! The encoder of header blocks.
 ghost use Rattle.std.specs.Prelude.{◌≡◌, ◌≤◌, ◌++◌, List, ℕ, sum_by, IfOk, OnOk, OnErr};
 ghost use Rattle.hpack_tables.specs.EntrySizes.{size_of};
+ghost use Rattle.hpack_tables.specs.Laws.{AreBytes};
 ghost use Rattle.hpack_tables.specs.Writing.{Encoder, Writes, fresh, limited};
 
 use crate::fields::Fields;
@@ -8,6 +9,7 @@ use crate::table::Table;
 use std::alloc::{AllocError, Global};
 use std::marker::Model;
 
+mod field_bytes;
 mod field_texts;
 mod integers;
 mod strings;
@@ -94,10 +96,16 @@ impl HeaderEncoder {
     }
 
     /// Writes the block of the fields, and leaves the encoder as it is until the block is kept.
+    ///
+    /// # Errors
+    ///
+    /// Where there is no memory.
     pub fn draft(&self, fields: &Fields) -> Result<EncodedBlock, AllocError>
         requires { sum_by size_of fields.now ≤ 65536 }
-        ensures { IfOk result (λ draft. Writes self.now fields.now draft.text draft.after) }
+        ensures writes { IfOk result (λ draft. Writes self.now fields.now draft.text draft.after) }
+        ensures bytes { AreBytes fields.now }
     {
+        field_bytes::are_bytes(fields);
         let mut table = self.table.share(self.alloc)?;
         let mut text = Vec::new(self.alloc);
         field_texts::put_update(self.is_lowered, table.max(), &mut text)?;

@@ -1,4 +1,13 @@
 //! Header blocks of HPACK (RFC 7541), both ways.
+//!
+//! Call [`HeaderDecoder::new`] and then `block` for each block that is received; [`HeaderEncoder::new`] and then `block`
+//! for each one that is sent, or `draft` and `keep` where sending can still fail. The contract is `specs/Reading.antt`
+//! (`BlockAt`) and `specs/Writing.antt` (`Writes`); that the one reads what the other writes is a law of [`laws`].
+//!
+//! ```text
+//! let mut decoder = HeaderDecoder::new(alloc, 4096)?;
+//! let fields = decoder.block(&[0x82, 0x86])?; // `:method` GET, `:scheme` http
+//! ```
 #![tactic(auto)]
 
 mod block;
@@ -8,6 +17,7 @@ mod fault;
 mod field;
 mod fields;
 mod integer;
+/// Laws over what is read and written, each the contract of a function that does nothing.
 pub mod laws;
 mod room;
 mod static_table;
