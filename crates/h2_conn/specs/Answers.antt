@@ -49,7 +49,8 @@ pub data Receives (role : Role) (limits : H2Limits) (is_holding : Bool) (heads :
   goes : (past more : List Step) (f : Frame) (fs : List Frame) → stop_of role limits heads (past ++ Received f ∷ []) ≡ None →
       AreReply role limits is_holding heads past f fs → Receives role limits is_holding heads (past ++ (Received f ∷ map Sent fs)) more →
       Receives role limits is_holding heads past (Received f ∷ (map Sent fs ++ more))
-  stops : (past : List Step) (f : Frame) (stop : Stop) → stop_of role limits heads past ≡ None → stop_of role limits heads (past ++ Received f ∷ []) ≡ Some stop →
+  stops : (past : List Step) (f : Frame) (stop : Stop) → stop_of role limits heads past ≡ None →
+      stop_of role limits heads (past ++ Received f ∷ []) ≡ Some stop →
       Receives role limits is_holding heads past (Received f ∷ [])
 
 -- ---- answers

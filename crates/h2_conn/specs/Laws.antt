@@ -15,11 +15,13 @@ SendsIn is_asked rest c = SendsOnly c.role c.limits c.heads is_asked c.fed rest 
 -- what is sent with events may be sent
 abbrev pub EventsSend : Type 0
 EventsSend =
-    (is_asked : List Step → ℕ → ErrorCode → Bool) (rest : List ℕ) (c d : ConnectionTrace) (es : List Event) (output later : List ℕ) → IsSound c output → IsSound d later → GivesEvents c es d →
+    (is_asked : List Step → ℕ → ErrorCode → Bool) (rest : List ℕ) (c d : ConnectionTrace) (es : List Event) (output later : List ℕ) → IsSound c output →
+    IsSound d later → GivesEvents c es d →
     SendsIn is_asked rest c → SendsIn is_asked rest d
 
 -- and what is sent before a refusal
 abbrev pub RefusalsSend : Type 0
 RefusalsSend =
-    (is_asked : List Step → ℕ → ErrorCode → Bool) (rest : List ℕ) (c d : ConnectionTrace) (stop : Stop) (output later : List ℕ) → IsSound c output → IsSound d later → Stops c stop d →
+    (is_asked : List Step → ℕ → ErrorCode → Bool) (rest : List ℕ) (c d : ConnectionTrace) (stop : Stop) (output later : List ℕ) → IsSound c output →
+    IsSound d later → Stops c stop d →
     (stop_in d ≡ None → AreFrames (peer_preface d.role) d.fed (received d.frames) rest) → SendsIn is_asked rest c → SendsIn is_asked rest d

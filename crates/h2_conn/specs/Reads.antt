@@ -13,7 +13,8 @@ use Rattle.h2_conn.specs.declared.preface_only.preface_reading.ReadOutcome.TheVa
 
 -- behind no frame the bytes are less than a frame, can't begin one, or begin with one
 abbrev pub Reads : Reader → ReadOutcome → Reader → Type 0
-Reads old NeedsMore new = (new.refusal ≡ None) × ((due fed : List ℕ) → Stands due old fed [] → Stands due new fed [] × ((rest : List ℕ) × Frames due fed [] rest))
+Reads old NeedsMore new = (new.refusal ≡ None)
+    × ((due fed : List ℕ) → Stands due old fed [] → Stands due new fed [] × ((rest : List ℕ) × Frames due fed [] rest))
 Reads old (Broken why place) new = (due fed : List ℕ) → Stands due old fed [] → IsBroken due fed [] why place
 Reads old Other new = (due fed : List ℕ) → Stands due old fed [] → HasAnother due fed []
 

@@ -58,7 +58,8 @@ IsCredit c f =
 -- What is sent where a hold begins or ends: all that is owed, once it has ended. After a refusal nothing is.
 abbrev pub CarryCredit : Bool → ConnectionTrace → List Frame → Type 0
 CarryCredit true c fs = fs ≡ []
-CarryCredit false c fs = All (IsCredit c) fs × (c.is_holding ≡ false → fs ≡ []) × (is_alive c ≡ false → fs ≡ []) × (is_alive c ≡ true → IsCredited c.role c.limits (c.frames ++ map Sent fs))
+CarryCredit false c fs = All (IsCredit c) fs × (c.is_holding ≡ false → fs ≡ []) × (is_alive c ≡ false → fs ≡ [])
+    × (is_alive c ≡ true → IsCredited c.role c.limits (c.frames ++ map Sent fs))
 
 -- the next id of a client, where this is the greatest one that was begun
 abbrev pub next_id : ℕ → ℕ

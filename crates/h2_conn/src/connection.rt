@@ -28,7 +28,7 @@ pub trait HttpConnection: Drop {
     /// The bytes that wait to be sent.
     ghost output: { Self → List ℕ };
 
-    // No more events come before more is fed.
+    // How many events can come before more is fed, at most.
     ghost ahead: { Self → ℕ };
 
     // So many bytes can be sent without memory.
@@ -41,13 +41,13 @@ pub trait HttpConnection: Drop {
         ensures output { output self.new ≡ output self.old }
         ensures ahead { ahead self.new ≡ ahead self.old };
 
-    /// Whether the stream is live.
+    /// Whether the stream is live, unless the connection has refused: behind that nothing is said of streams.
     fn is_live(&self, stream: u32) -> bool
-        ensures { (c : ConnectionTrace) → stands self.now c → result ≡ is_live c.role c.frames stream };
+        ensures { (c : ConnectionTrace) → stands self.now c → c.refusal ≡ None → result ≡ is_live c.role c.frames stream };
 
-    /// Whether the stream is live and this side has not ended it.
+    /// Whether the stream is live and this side has not ended it, unless the connection has refused.
     fn is_open(&self, stream: u32) -> bool
-        ensures { (c : ConnectionTrace) → stands self.now c → result ≡ is_open c.role c.frames stream };
+        ensures { (c : ConnectionTrace) → stands self.now c → c.refusal ≡ None → result ≡ is_open c.role c.frames stream };
 
     /// Takes the next piece. A connection that has refused takes it too, and gives nothing of it. Without memory nothing changes.
     fn feed(&mut self, piece: Bytes) -> Result<(), AllocError>
@@ -71,7 +71,8 @@ pub trait HttpConnection: Drop {
     fn begin(&mut self, fields: &Fields) -> Result<u32, SendFault>
         requires client { (c : ConnectionTrace) × stands self.old c × (c.role ≡ Client) }
         requires size { sum_by size_of fields.now ≤ 65536 }
-        ensures ok { (c : ConnectionTrace) → stands self.old c → IfOk result (λ id. (fs : List Frame) × CarryBlock id false fs × stands self.new (wrote fs (fields.now ∷ []) c)) }
+        ensures ok { (c : ConnectionTrace) → stands self.old c →
+            IfOk result (λ id. (fs : List Frame) × CarryBlock id false fs × stands self.new (wrote fs (fields.now ∷ []) c)) }
         ensures err { OnErr result (Keeps (stands self.old) (stands self.new)) }
         ensures begins { (c : ConnectionTrace) → stands self.old c → BeginsWhere c result }
         ensures ahead { ahead self.new ≡ ahead self.old };
@@ -79,9 +80,11 @@ pub trait HttpConnection: Drop {
     /// Sends a head on an open stream, and ends this side of it or not. Any other stream is `NotOpen`.
     fn send_head(&mut self, stream: u32, fields: &Fields, last: bool) -> Result<(), SendFault>
         requires { sum_by size_of fields.now ≤ 65536 }
-        ensures room { (c : ConnectionTrace) → stands self.old c → c.role ≡ Server → block_room fields.now ≤ room self.old → result ≡ Err NoMemory → ⊥ }
+        ensures room { (c : ConnectionTrace) → stands self.old c → c.role ≡ Server → block_room fields.now ≤ room self.old →
+            result ≡ Err NoMemory → ⊥ }
         ensures left { OnOk result (room self.old ≤ room self.new + block_room fields.now) }
-        ensures ok { (c : ConnectionTrace) → stands self.old c → OnOk result ((fs : List Frame) × CarryBlock stream last fs × stands self.new (wrote fs (fields.now ∷ []) c)) }
+        ensures ok { (c : ConnectionTrace) → stands self.old c →
+            OnOk result ((fs : List Frame) × CarryBlock stream last fs × stands self.new (wrote fs (fields.now ∷ []) c)) }
         ensures err { OnErr result (Keeps (stands self.old) (stands self.new)) }
         ensures sends { (c : ConnectionTrace) → stands self.old c → SendsWhere (is_alive c && is_open c.role c.frames stream) result }
         ensures ahead { ahead self.new ≡ ahead self.old };
@@ -89,10 +92,12 @@ pub trait HttpConnection: Drop {
     /// Sends as much of a piece on an open stream as the windows and one frame allow, and tells how much.
     /// This side of the stream ends where the piece is the last one and is sent whole.
     fn send_piece(&mut self, stream: u32, piece: &[u8], last: bool) -> Result<usize, SendFault>
-        ensures room { 9 + length piece.now ≤ room self.old → result ≡ Err NoMemory → ⊥ }
+        ensures room { (c : ConnectionTrace) → stands self.old c → c.role ≡ Server → 9 + length piece.now ≤ room self.old →
+            result ≡ Err NoMemory → ⊥ }
         ensures left { IfOk result (λ n. room self.old ≤ room self.new + (9 + n)) }
         ensures ok { (c : ConnectionTrace) → stands self.old c →
-            IfOk result (λ n. (n ≡ placed_of c.frames stream piece.now) × (fs : List Frame) × CarryPiece stream piece.now last n fs × stands self.new (wrote fs [] c)) }
+            IfOk result (λ n. (n ≡ placed_of c.frames stream piece.now)
+            × (fs : List Frame) × CarryPiece stream piece.now last n fs × stands self.new (wrote fs [] c)) }
         ensures err { OnErr result (Keeps (stands self.old) (stands self.new)) }
         ensures sends { (c : ConnectionTrace) → stands self.old c → SendsWhere (is_alive c && is_open c.role c.frames stream) result }
         ensures ahead { ahead self.new ≡ ahead self.old };
@@ -100,9 +105,11 @@ pub trait HttpConnection: Drop {
     /// Sends trailers on an open stream, which end this side of it.
     fn send_trailers(&mut self, stream: u32, fields: &Fields) -> Result<(), SendFault>
         requires { sum_by size_of fields.now ≤ 65536 }
-        ensures room { (c : ConnectionTrace) → stands self.old c → c.role ≡ Server → block_room fields.now ≤ room self.old → result ≡ Err NoMemory → ⊥ }
+        ensures room { (c : ConnectionTrace) → stands self.old c → c.role ≡ Server → block_room fields.now ≤ room self.old →
+            result ≡ Err NoMemory → ⊥ }
         ensures left { OnOk result (room self.old ≤ room self.new + block_room fields.now) }
-        ensures ok { (c : ConnectionTrace) → stands self.old c → OnOk result ((fs : List Frame) × CarryBlock stream true fs × stands self.new (wrote fs (fields.now ∷ []) c)) }
+        ensures ok { (c : ConnectionTrace) → stands self.old c →
+            OnOk result ((fs : List Frame) × CarryBlock stream true fs × stands self.new (wrote fs (fields.now ∷ []) c)) }
         ensures err { OnErr result (Keeps (stands self.old) (stands self.new)) }
         ensures sends { (c : ConnectionTrace) → stands self.old c → SendsWhere (is_alive c && is_open c.role c.frames stream) result }
         ensures ahead { ahead self.new ≡ ahead self.old };
@@ -116,7 +123,8 @@ pub trait HttpConnection: Drop {
 
     /// Holds credit back, or ends that and sends what is owed. Without memory nothing changes.
     fn hold_credit(&mut self, hold: bool) -> Result<(), AllocError>
-        ensures ok { (c : ConnectionTrace) → stands self.old c → OnOk result ((fs : List Frame) × CarryCredit hold c fs × stands self.new (held hold (wrote fs [] c))) }
+        ensures ok { (c : ConnectionTrace) → stands self.old c →
+            OnOk result ((fs : List Frame) × CarryCredit hold c fs × stands self.new (held hold (wrote fs [] c))) }
         ensures err { OnErr result (Keeps (stands self.old) (stands self.new)) }
         ensures ahead { ahead self.new ≡ ahead self.old };
 

@@ -42,8 +42,13 @@ fn discard_events<C: HttpConnection>(conn: &mut C) -> H2Event
 
 /// Takes the next piece and lets every event of it go, as behind the end of all calls. Answers what the
 /// connection says behind them: it wants more, or it refuses.
+///
+/// # Errors
+///
+/// Where there is no memory for the piece: nothing was taken.
 pub fn drain<C: HttpConnection>(conn: &mut C, piece: Bytes) -> Result<H2Event, AllocError>
-    ensures ok { (c : ConnectionTrace) → C.stands conn.old c → IfOk result (λ last. (d : ConnectionTrace) × C.stands conn.new d × Drained (fed_more piece c) last d) }
+    ensures ok { (c : ConnectionTrace) → C.stands conn.old c →
+        IfOk result (λ last. (d : ConnectionTrace) × C.stands conn.new d × Drained (fed_more piece c) last d) }
     ensures err { OnErr result (Keeps (C.stands conn.old) (C.stands conn.new)) }
 {
     match conn.feed(piece) {
