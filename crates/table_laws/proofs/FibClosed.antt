@@ -35,7 +35,7 @@ unused_put : (e : Entry) (key : Key) (table : List Entry) → refers e key ≡ f
 unfolding used
 unused_put e key table apart free = none_used key (put e table) (all_put (λ x. not (refers x key)) e table (not_used key table free) (ap not apart))
 
-unused_taken : (gone key : Key) (table : List Entry) → used table key ≡ false → used (take_out gone table) key ≡ false
+pub unused_taken : (gone key : Key) (table : List Entry) → used table key ≡ false → used (take_out gone table) key ≡ false
 unfolding used
 unused_taken gone key table free = none_used key (take_out gone table) (all_taken (λ x. not (refers x key)) gone table (not_used key table free))
 

@@ -1,5 +1,5 @@
 -- A worker that serves all keys, and has no next job while none is out, has nothing left to do.
-use Rattle.std.proofs.Common.{◌≡◌, ℕ, Bool, true, false, List, [], ◌∷◌, Some, None, Option, refl, sym, ap, subst, ◌∙◌, arith}
+use Rattle.std.proofs.Common.{◌≡◌, Bool, true, false, List, [], ◌∷◌, Some, None, Option, refl, sym, subst, ◌∙◌, arith}
 use Rattle.std.specs.Prelude.{not, ◌&&◌, ◌||◌, ◌==◌, cond, filter, find, map}
 use Rattle.std.specs.List.{list_all, list_any}
 use Rattle.std.proofs.lemmas.Bool.Decides.{nat_tests}
@@ -8,7 +8,7 @@ use Rattle.aft_entries.specs.Order.{shard_of}
 use Rattle.table_model.specs.declared.command.Config.{Config}
 use Rattle.table_model.specs.declared.job.JobNumber.{JobNumber}
 use Rattle.table_model.specs.Event.{Event}
-use Rattle.table_model.specs.Jobs.{Task, TrackedTask, Outcome, Waiting, Out, Programmed, Faulted, PassedOver, tasks, tracked_tasks, outcome_of, next_task, number_lt, is_undone, is_out, is_waiting, is_blocked, on_shard, conflict, work_key}
+use Rattle.table_model.specs.Jobs.{Task, TrackedTask, Outcome, Waiting, Out, Programmed, Faulted, PassedOver, tasks, tracked_tasks, next_task, number_lt, is_undone, is_out, is_waiting, is_blocked, on_shard, conflict, work_key}
 use Rattle.table_model.specs.Laws.{is_ascending}
 use Rattle.table_model.specs.BoardState.{is_undone_task}
 use Rattle.table_model.proofs.Tests.{and_left, and_right, and_both, all_filter}

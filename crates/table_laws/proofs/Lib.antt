@@ -24,3 +24,4 @@ mod Faultless
 mod InFlight
 mod Succeeds
 mod Idle
+mod DoneAnswers

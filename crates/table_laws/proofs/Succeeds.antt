@@ -1,10 +1,10 @@
 -- Where no device fails each result is without a failure.
-use Rattle.std.proofs.Common.{◌≡◌, ℕ, Bool, true, false, List, [], ◌∷◌, ◌++◌, Some, None, Option, refl, ap, ◌∙◌}
-use Rattle.std.specs.Prelude.{ℤ, is_none, option_to_list, option_and_then, cond, ◌||◌, ◌&&◌}
+use Rattle.std.proofs.Common.{◌≡◌, ℕ, Bool, true, false, List, [], ◌∷◌, Some, None, Option, refl, ◌∙◌}
+use Rattle.std.specs.Prelude.{ℤ, is_none, option_to_list, option_and_then, cond}
 use Rattle.std.specs.List.{list_all, list_any}
 use Rattle.std.proofs.lemmas.List.Folds.{list_all-append}
 use Rattle.table_model.specs.declared.command.Command.{Command}
-use Rattle.table_model.specs.declared.command.Command.TheVariants.{Begin, SetParams, Announce, Operate, Collect, Leave, Flush, Select, Take, Report, Halt}
+use Rattle.table_model.specs.declared.command.Command.TheVariants.{Take, Report}
 use Rattle.table_model.specs.declared.command.Config.{Config}
 use Rattle.table_model.specs.declared.job.JobNumber.{JobNumber}
 use Rattle.table_model.specs.declared.job.Verdict.TheVariants as verdict
@@ -14,7 +14,6 @@ use Rattle.table_model.specs.declared.results.FibResult.{FibResult}
 use Rattle.table_model.specs.Event.{Event, is_reported}
 use Rattle.table_model.specs.Jobs.{Task, Programmed, tasks, update_of, update_by_take, task_at}
 use Rattle.table_model.specs.Laws.{event, is_fault, is_skip}
-use Rattle.table_model.specs.Legal.{IsLawful}
 use Rattle.table_model.specs.Results.{result_by, results, wanted_by, failure}
 use Rattle.table_model.proofs.Closed.{or_left, or_right}
 use Rattle.table_model.proofs.Tests.{and_both}

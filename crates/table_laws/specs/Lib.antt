@@ -4,3 +4,4 @@ pub mod Boards
 pub mod CollectedResults
 pub mod InFlight
 pub mod Succeeds
+pub mod DoneAnswers

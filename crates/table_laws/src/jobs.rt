@@ -11,6 +11,7 @@ ghost use Rattle.table_model.specs.Laws.{AllAnswered, AnsweredOnce, JobsAscend, 
 ghost use Rattle.table_model.specs.Table.{in_order};
 ghost use Rattle.table_laws.specs.Boards.{BoardAnswersAsHistory};
 ghost use Rattle.table_laws.specs.CollectedResults.{CollectedWasReported};
+ghost use Rattle.table_laws.specs.DoneAnswers.{ResultsAreOfDoneJobs};
 ghost use Rattle.table_laws.specs.InFlight.{InFlightIsClosed};
 ghost use Rattle.table_laws.specs.Succeeds.{SucceedsWithoutFaults, IdleIsDone};
 
@@ -50,6 +51,11 @@ pub fn results_are_answered_once()
     ensures { (config : Config) → AnsweredOnce config }
 {}
 
+/// A session's results are those of its jobs that are done, by id and failure, each once: no job is answered twice.
+pub fn results_are_of_done_jobs()
+    ensures { (config : Config) → ResultsAreOfDoneJobs config }
+{}
+
 /// What a Collect answers as outstanding is what the session waits for or hasn't collected right after it.
 pub fn outstanding_is_owed()
     ensures { (config : Config) → OutstandingIsOwed config }
@@ -77,7 +83,8 @@ pub fn fib_is_closed()
     ensures { (config : Config) → FibIsClosed config }
 {}
 
-/// Whichever of the jobs that are out the devices have done already, each entry's references are in what they hold.
+/// Whichever of the jobs that are out the devices have done already, and in whatever order, each entry's references
+/// are in what they hold.
 pub fn in_flight_is_closed()
     ensures { (config : Config) → InFlightIsClosed config }
 {}

@@ -21,7 +21,7 @@ pub use jobs::{
     fib_is_rib_where_programmed, fib_is_rib_without_faults, idle_is_done, in_flight_is_closed,
     jobs_ascend, jobs_complete_once, jobs_in_conflict_keep_order, jobs_out_are_apart,
     late_work_has_same_effect, outstanding_is_owed, programmed_is_there, programmed_was_reported,
-    reports_give_fib, results_are_answered_once, succeeds_without_faults,
+    reports_give_fib, results_are_answered_once, results_are_of_done_jobs, succeeds_without_faults,
 };
 pub use rib::{
     chains_are_short, done_is_there, done_where_due, equal_lookups, events_are_lawful,
