@@ -41,7 +41,7 @@ ascends_filter p (x ∷ xs) up = by_test (p x) (ascends_filter p xs (and_right (
     by_test true rest = and_both (list_all (is_past x.task.job.number) (filter p xs)) (ascends (filter p xs)) (all_filter (is_past x.task.job.number) p xs (and_left _ (ascends xs) up)) rest
     by_test false rest = rest
 
-unwrap_some : {X : Type 0} (x y : X) → Some x ≡ Some y → x ≡ y
+pub unwrap_some : {X : Type 0} (x y : X) → Some x ≡ Some y → x ≡ y
 unwrap_some x y e = cc
 
 earlier_apart : (a b : JobNumber) → number_lt a b ≡ true → number_eq a b ≡ false

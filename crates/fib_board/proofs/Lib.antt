@@ -1,4 +1,5 @@
 pub mod Finding
+mod Searching
 pub mod Rows
 pub mod Ascending
 pub mod Ending

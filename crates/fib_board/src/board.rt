@@ -223,7 +223,7 @@ impl Board {
         ensures workers { self.new.workers ≡ self.old.workers }
         ensures undone { self.new.undone ≡ self.old.undone }
         ensures fib { self.new.fib ≡ self.old.fib }
-        ensures due { (session : ℕ) → due_for self.new.due session ≡ due_for self.old.due session }
+        ensures due { self.new.due ≡ self.old.due }
         ensures spare { self.old.spare ≤ self.new.spare }
     {
         let had = self.spare.len();

@@ -1,30 +1,53 @@
 //! The undone jobs, in the order of their numbers.
-ghost use Rattle.std.specs.Prelude.{◌≡◌, ◌&&◌, ◌≤◌, ◌<◌, ◌+◌, ◌∷◌, ◌++◌, [], count_by, length, map, not, vec_len, vec_capacity};
+ghost use Rattle.std.specs.Prelude.{◌≡◌, ◌&&◌, ◌≤◌, ◌<◌, ◌+◌, ◌∷◌, ◌++◌, [], true, Some, slice_get, count_by, length, map, not, vec_len, vec_capacity};
 ghost use Rattle.std.specs.List.{list_any, position};
 ghost use Rattle.table_model.specs.Jobs as history;
 ghost use Rattle.table_model.specs.Results.{is_awaited};
 ghost use Rattle.fib_board.specs.Steps.{is_out_as, unwanted};
-ghost use Rattle.fib_board.specs.BoardInvariant.{may_start};
+ghost use Rattle.fib_board.specs.BoardInvariant.{ascends, may_start};
 
 use crate::pending_job::PendingJob;
 use table_model::JobNumber;
 
-fn is_blocked(jobs: &[PendingJob], pending_job: &PendingJob) -> bool
-    ensures { result ≡ history.is_blocked jobs.now pending_job.now.task }
+fn is_blocked(earlier: &[PendingJob], pending_job: &PendingJob) -> bool
+    ensures { result ≡ history.is_blocked earlier.now pending_job.now.task }
 {
-    jobs.iter().any(|earlier| earlier.blocks(pending_job))
+    earlier.iter().any(|other| other.blocks(pending_job))
+}
+
+// Whether the job is the worker's, waits, and none of these blocks it.
+fn may_start(earlier: &[PendingJob], pending_job: &PendingJob, workers: u32, worker: u32) -> bool
+    requires { 0 < workers }
+    ensures { result ≡ (history.on_shard workers worker pending_job.now.task && history.is_waiting pending_job.now.outcome && not (history.is_blocked earlier.now pending_job.now.task)) }
+{
+    pending_job.is_on(workers, worker)
+        && pending_job.is_waiting()
+        && !is_blocked(earlier, pending_job)
+}
+
+// The same of the job at this place. Those behind it are later and can't block it.
+fn may_start_at(jobs: &[PendingJob], workers: u32, worker: u32, at: usize) -> bool
+    requires workers { 0 < workers }
+    requires within { at < length jobs.now }
+    requires ascending { ascends jobs.now ≡ true }
+    ensures { (tracked : history.TrackedTask) → slice_get jobs.now at ≡ Some tracked → result ≡ may_start workers jobs.now worker tracked }
+{
+    let (earlier, rest) = jobs.split_at(at);
+    may_start(earlier, &rest[0], workers, worker)
 }
 
 /// The place of the least job of the worker that waits and isn't blocked.
 pub fn next_place(jobs: &[PendingJob], workers: u32, worker: u32) -> Option<usize>
-    requires { 0 < workers }
+    requires workers { 0 < workers }
+    requires ascending { ascends jobs.now ≡ true }
     ensures { result ≡ position (may_start workers jobs.now worker) jobs.now }
 {
-    jobs.iter().position(|pending_job| {
-        pending_job.is_on(workers, worker)
-            && pending_job.is_waiting()
-            && !is_blocked(jobs, pending_job)
-    })
+    for at in 0..jobs.len() {
+        if may_start_at(jobs, workers, worker, at) {
+            return Some(at);
+        }
+    }
+    None
 }
 
 /// The place of the job with this number that is out.
