@@ -240,7 +240,10 @@ pub(crate) fn fib(alloc: Global, past: &[Event]) -> Result<Vec<Entry>, AllocErro
 fn is_among(key: &Key, keys: &[Key]) -> bool
     ensures { result ≡ references.is_among key.now keys.now }
 {
-    keys.iter().any(|other| key.is(other))
+    match keys {
+        [] => false,
+        [other, rest @ ..] => key.is(other) || is_among(key, rest),
+    }
 }
 
 // The keys that a job touches beside its own.

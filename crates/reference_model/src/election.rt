@@ -145,7 +145,10 @@ fn only(alloc: Global, a: Announcement) -> Latest
 fn is_top(a: &Announcement, earlier: &[Announcement]) -> bool
     ensures { result ≡ list_all (λ b. nat_le b.id a.now.id) earlier.now }
 {
-    earlier.iter().all(|b| b.id <= a.id)
+    match earlier {
+        [] => true,
+        [b, rest @ ..] => b.id <= a.id && is_top(a, rest),
+    }
 }
 
 // One more announcement, which isn't the top.

@@ -1,5 +1,6 @@
 //! Tables of entries, in key order: lists of them, and lookups.
 ghost use Rattle.std.specs.Prelude.{◌≡◌, ◌∷◌, ◌++◌, IfOk, filter, option_copied};
+ghost use Rattle.std.specs.List.{list_all};
 ghost use Rattle.std.specs.Ordering.{is_gt, is_lt};
 ghost use Rattle.aft_entries.specs.Order.{key_cmp};
 ghost use Rattle.table_model.specs.Table as history;
@@ -13,7 +14,16 @@ use std::cmp::Ordering;
 pub(crate) fn lookup<'a>(key: &Key, table: &'a [Entry]) -> Option<&'a Entry>
     ensures { option_copied result ≡ history.lookup key.now table.now }
 {
-    table.iter().find(|e| key.is(&e.key))
+    match table {
+        [] => None,
+        [e, rest @ ..] => {
+            if key.is(&e.key) {
+                Some(e)
+            } else {
+                lookup(key, rest)
+            }
+        }
+    }
 }
 
 pub(crate) fn has(table: &[Entry], key: &Key) -> bool
@@ -105,7 +115,16 @@ pub(crate) fn resolves(alloc: Global, table: &[Entry], entry: &Entry) -> Result<
     ensures { IfOk result (λ all. all ≡ history.resolves table.now entry.now) }
 {
     let keys = refs(alloc, entry)?;
-    Ok(keys.as_slice().iter().all(|key| has(table, key)))
+    Ok(has_all(table, keys.as_slice()))
+}
+
+fn has_all(table: &[Entry], keys: &[Key]) -> bool
+    ensures { result ≡ list_all (history.has table.now) keys.now }
+{
+    match keys {
+        [] => true,
+        [key, rest @ ..] => has(table, key) && has_all(table, rest),
+    }
 }
 
 /// Whether some entry refers to the key.
@@ -113,7 +132,10 @@ pub(crate) fn resolves(alloc: Global, table: &[Entry], entry: &Entry) -> Result<
 pub(crate) fn used(table: &[Entry], key: &Key) -> bool
     ensures { result ≡ history.used table.now key.now }
 {
-    table.iter().any(|e| refers(e, key))
+    match table {
+        [] => false,
+        [e, rest @ ..] => refers(e, key) || used(rest, key),
+    }
 }
 
 /// The key of a group's backup.

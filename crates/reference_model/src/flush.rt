@@ -1,5 +1,6 @@
 //! What a Flush leaves.
 ghost use Rattle.std.specs.Prelude.{◌≡◌, IfOk, length, filter};
+ghost use Rattle.std.specs.List.{list_any};
 ghost use Rattle.table_model.specs.Table as history;
 
 use crate::entries::copies;
@@ -57,5 +58,14 @@ pub(crate) fn remains(alloc: Global, table: &[Entry], which: Which) -> Result<bo
     ensures { IfOk result (λ some. some ≡ history.remains table.now which) }
 {
     let left = kept(alloc, table, which)?;
-    Ok(left.iter().any(|e| names(which, e.key.instance)))
+    Ok(has_named(which, &left))
+}
+
+fn has_named(which: Which, left: &[Entry]) -> bool
+    ensures { result ≡ list_any (λ e. history.names which e.key.instance) left.now }
+{
+    match left {
+        [] => false,
+        [e, rest @ ..] => names(which, e.key.instance) || has_named(which, rest),
+    }
 }

@@ -14,7 +14,10 @@ use table_model::{AskedParams, Command, Config, Operation, Params, Reply};
 pub(crate) fn is_halted(past: &[Event]) -> bool
     ensures { result ≡ history.is_halted past.now }
 {
-    past.iter().any(|e| is_halt_done(&e.reply))
+    match past {
+        [] => false,
+        [e, past @ ..] => is_halt_done(&e.reply) || is_halted(past),
+    }
 }
 
 /// Whether a Halt stops the command.

@@ -37,7 +37,16 @@ fn failure(task: &Task, outcome: JobOutcome) -> Option<u8>
 fn task_of(number: JobNumber, made: &[Task]) -> Option<&Task>
     ensures { option_copied result ≡ find (λ task. jobs.number_eq number task.job.number) made.now }
 {
-    made.iter().find(|task| number_eq(number, task.job.number))
+    match made {
+        [] => None,
+        [task, rest @ ..] => {
+            if number_eq(number, task.job.number) {
+                Some(task)
+            } else {
+                task_of(number, rest)
+            }
+        }
+    }
 }
 
 fn result_of(session: u64, outcome: JobOutcome, now: i64, task: &Task) -> Option<FibResult>

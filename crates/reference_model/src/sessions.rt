@@ -1,5 +1,6 @@
 //! Sessions and their parameters.
 ghost use Rattle.std.specs.Prelude.{◌≡◌, ◌==◌, IfOk, filter, not};
+ghost use Rattle.std.specs.List.{list_any};
 ghost use Rattle.std.specs.Option.{option_or};
 ghost use Rattle.table_model.specs.Sessions as history;
 
@@ -58,7 +59,16 @@ pub(crate) fn is_live(alloc: Global, past: &[Event], session: u64) -> Result<boo
     ensures { IfOk result (λ there. there ≡ history.is_live past.now session) }
 {
     let sessions = live(alloc, past)?;
-    Ok(sessions.iter().any(|other| *other == session))
+    Ok(is_one_of(session, &sessions))
+}
+
+fn is_one_of(session: u64, sessions: &[u64]) -> bool
+    ensures { result ≡ list_any (λ other. other == session) sessions.now }
+{
+    match sessions {
+        [] => false,
+        [first, rest @ ..] => *first == session || is_one_of(session, rest),
+    }
 }
 
 fn both(persistence: Option<Persistence>, ack: Option<AckType>) -> Option<Params>

@@ -64,7 +64,10 @@ fn is_bad_hop(hop: &HopPayload) -> bool
 fn has_high_label(labels: &[u32]) -> bool
     ensures { result ≡ list_any (λ label. nat_lt 1048575 label) labels.now }
 {
-    labels.iter().any(|label| *label > 1048575)
+    match labels {
+        [] => false,
+        [first, rest @ ..] => *first > 1048575 || has_high_label(rest),
+    }
 }
 
 #[tactic(auto, unfolding(table_model::specs::Table::is_bad_payload))]
@@ -80,9 +83,10 @@ fn is_bad_group(group: &GroupPayload) -> bool
 fn has_zero(members: &[Member]) -> bool
     ensures { result ≡ list_any (λ member. member.hop == 0 || member.weight == 0) members.now }
 {
-    members
-        .iter()
-        .any(|member| member.hop == 0 || member.weight == 0)
+    match members {
+        [] => false,
+        [first, rest @ ..] => first.hop == 0 || first.weight == 0 || has_zero(rest),
+    }
 }
 
 // Whether two members have the same next hop.
@@ -101,8 +105,8 @@ fn has_twice(members: &[Member]) -> bool
 fn has_hop(members: &[Member], hop: u64) -> bool
     ensures { result ≡ list_any (λ other. other == hop) (map (λ member. member.hop) members.now) }
 {
-    members
-        .iter()
-        .map(|member| member.hop)
-        .any(|other| other == hop)
+    match members {
+        [] => false,
+        [first, rest @ ..] => first.hop == hop || has_hop(rest, hop),
+    }
 }
