@@ -33,8 +33,8 @@ answers_alone before now after bytes status w other lacks (inr six) = subst (λ 
 
 -- it closes, and the last item was written, or a part of it
 pub runs_closed : (f : Behaviour) (stands later left : List (List ℕ) → Type 0) (stop : Stop) (told : Told) (close : Close) (status : ℕ) (after : Option (List ℕ)) → Stopped f stands stop told → close_of stop ≡ Some close
-    → (IsClosing status → (status_at close ≡ status) × Wrote told.after (trailer_of close) after) → WrotePart told.after (trailer_of close) after → ((done : List (List ℕ)) → stands done → length done < 2 ^ 61 → left done)
-    → (status ≡ 0 → stop ≡ why.Finished) → (status ≡ 4 → ⊥) → (status ≡ 6 → after ≡ told.after) → Runs f later left status (then_told told told.taken_after told.left_after after)
+    → (IsClosing status → (status_at close ≡ status) × Wrote told.sink.after (trailer_of close) after) → WrotePart told.sink.after (trailer_of close) after → ((done : List (List ℕ)) → stands done → length done < 2 ^ 61 → left done)
+    → (status ≡ 0 → stop ≡ why.Finished) → (status ≡ 4 → ⊥) → (status ≡ 6 → after ≡ told.sink.after) → Runs f later left status (then_told told told.source.taken_after told.source.left_after after)
 runs_closed f stands later left stop told close status after h e whole part leaves finished other lacks =
     let c = h.closes close e in
     let out : output_of f h.taken ≡ (outcome_of f h.taken).written ++ trailer_of close = ap (λ (x : Close). (outcome_of f h.taken).written ++ trailer_of x) c.0 in
@@ -44,12 +44,12 @@ runs_closed f stands later left stop told close status after h e whole part leav
       left_is = h.left_is;
       whole = λ t.
           let w = whole t in
-          (ap status_at c.0 ∙ w.0, rw out (wrote_more told.before told.after after (outcome_of f h.taken).written (trailer_of close) c.1 w.1), leaves (done_of f h.taken) c.2 (omega (arith, c.3)));
+          (ap status_at c.0 ∙ w.0, rw out (wrote_more told.sink.before told.sink.after after (outcome_of f h.taken).written (trailer_of close) c.1 w.1), leaves (done_of f h.taken) c.2 (omega (arith, c.3)));
       still = λ t rest l. h.still close e rest l;
       over = λ z. h.over (finished z);
       failed = λ z. absurd (other z);
-      answers = answers_alone told.before told.after after (outcome_of f h.taken).written status h.answers other lacks;
-      part = rw out (part_then told.before told.after after (outcome_of f h.taken).written (trailer_of close) c.1 part);
+      answers = answers_alone told.sink.before told.sink.after after (outcome_of f h.taken).written status h.answers other lacks;
+      part = rw out (part_then told.sink.before told.sink.after after (outcome_of f h.taken).written (trailer_of close) c.1 part);
     }
 
 -- ---- where the source tells its input
@@ -62,21 +62,21 @@ none_of : (left : Option (List ℕ)) (rest : List ℕ) → left ≡ Some rest �
 none_of None rest e h = absurd cc
 none_of (Some l) rest e h = let same : l ≡ rest = cc in sym same ∙ h
 
-pub runs_over : (f : Behaviour) (stands left : List (List ℕ) → Type 0) (status : ℕ) (input : List ℕ) (told : Told) → Runs f stands left status told → told.left_before ≡ Some input → RunsOver f stands left status input told
+pub runs_over : (f : Behaviour) (stands left : List (List ℕ) → Type 0) (status : ℕ) (input : List ℕ) (told : Told) → Runs f stands left status told → told.source.left_before ≡ Some input → RunsOver f stands left status input told
 runs_over f stands left status input told h e =
-    let r = rest_of input h.taken told.left_after (sym e ∙ h.left_is) in
+    let r = rest_of input h.taken told.source.left_after (sym e ∙ h.left_is) in
     let same : IsClosing status → outcome_of f input ≡ outcome_of f h.taken = λ t. ap (outcome_of f) r.2 ∙ h.still t r.0 r.1 in
-    let whole : IsClosing status → (status_of f input ≡ status) × Wrote told.before (output_of f input) told.after × left (done_of f input)
+    let whole : IsClosing status → (status_of f input ≡ status) × Wrote told.sink.before (output_of f input) told.sink.after × left (done_of f input)
     = λ t.
     let w = h.whole t in
-    (ap (λ (o : Outcome). status_at o.close) (same t) ∙ w.0, subst (λ (o : Outcome). Wrote told.before (output_at o) told.after) (sym (same t)) w.1, subst (λ (o : Outcome). left o.done) (sym (same t)) w.2) in
+    (ap (λ (o : Outcome). status_at o.close) (same t) ∙ w.0, subst (λ (o : Outcome). Wrote told.sink.before (output_at o) told.sink.after) (sym (same t)) w.1, subst (λ (o : Outcome). left o.done) (sym (same t)) w.2) in
     record {
       taken = h.taken;
       rest = r.0;
       input_is = r.2;
       taken_is = h.taken_is;
       left_is = r.1;
-      done = λ z. let w = whole (inl z) in (w.0 ∙ z, none_of told.left_after r.0 r.1 (h.over z), w.1);
+      done = λ z. let w = whole (inl z) in (w.0 ∙ z, none_of told.source.left_after r.0 r.1 (h.over z), w.1);
       unreadable = λ z. let w = whole (inr (inl z)) in (w.0 ∙ z, w.1);
       refused = λ z. let w = whole (inr (inr z)) in (w.0 ∙ z, w.1);
       server = λ t. (whole t).2;
@@ -119,7 +119,7 @@ runs_failed f stands left stop told status h goes_on unreadable = record {
   failed = λ z. h.failed (unreadable z);
   over = λ z. absurd (goes_on (inl z));
   answers = λ which. h.answers;
-  part = part_more told.before told.after (outcome_of f h.taken).written (trailer_of (outcome_of f h.taken).close) h.answers;
+  part = part_more told.sink.before told.sink.after (outcome_of f h.taken).written (trailer_of (outcome_of f h.taken).close) h.answers;
 }
 
 pub goes_on : (status : ℕ) → (status ≡ 4) ⊎ (status ≡ 5) ⊎ (status ≡ 6) → IsClosing status → ⊥

@@ -4,7 +4,7 @@ use Rattle.std.proofs.lemmas.List.{append-nil, length-drop, drop-drop}
 use Rattle.grpc_framing.specs.declared.front.Front.TheVariants.{Message, Compressed, TooLong}
 use Rattle.grpc_framing.specs.Framing.{front_at}
 use Rattle.message_run.specs.Behaviour.{Behaviour, Ending, Reply, Field, Response, PartAppended}
-use Rattle.message_run.specs.Outcomes.{Refused, Unreadable, MESSAGE_LIMIT}
+use Rattle.message_run.specs.Outcomes.{Refused, Unreadable, MAX_MESSAGE_SIZE}
 use Rattle.message_run.specs.Reading.{HandledSoFar, Closes, AnswersBegin}
 use Rattle.message_run.proofs.Streams.{few_read, reads_more, closes_at_reply, closes_at_field, closes_at_compressed, closes_at_too_long, begins_so, begins_message}
 
@@ -32,7 +32,7 @@ may_answer f first stands start held at before out h r lt =
 -- ---- one message
 
 module _ (f g : Behaviour) (same : g ≡ f) (first stands later : List (List ℕ) → Type 0) (start : ℕ) (held : List ℕ) (at : ℕ) (before out : List ℕ) (h : IsFeeding f first stands start held at before out) (short : start + length held < 2 ^ 61)
-    (message : List ℕ) (k : ℕ) (item : front_at MESSAGE_LIMIT (drop at held) ≡ Message k) (text : message ≡ take k (drop 5 (drop at held))) (after : List ℕ) where
+    (message : List ℕ) (k : ℕ) (item : front_at MAX_MESSAGE_SIZE (drop at held) ≡ Message k) (text : message ≡ take k (drop 5 (drop at held))) (after : List ℕ) where
   response_is : (done : List (List ℕ)) → g done message ≡ f done message
   response_is done = ap (λ (x : Behaviour). x done message) same
 
@@ -93,10 +93,10 @@ module _ (f g : Behaviour) (same : g ≡ f) (first stands later : List (List ℕ
 
 module _ (f : Behaviour) (first stands : List (List ℕ) → Type 0) (start : ℕ) (held : List ℕ) (at : ℕ) (before out : List ℕ) (h : IsFeeding f first stands start held at before out)
     (bytes sent : List ℕ) (r : HandledSoFar f first bytes held (sent ++ before)) (len : length bytes ≡ start + length held) where
-  pub feeds_compressed : front_at MESSAGE_LIMIT (drop at held) ≡ Compressed → Closes f stands bytes (sent ++ out) (Unreadable (start + at))
+  pub feeds_compressed : front_at MAX_MESSAGE_SIZE (drop at held) ≡ Compressed → Closes f stands bytes (sent ++ out) (Unreadable (start + at))
   feeds_compressed e = closes_at_compressed f stands bytes (drop at held) (sent ++ out) (start + at) (h.reads bytes sent r len) e (offset bytes held start at h.within len)
 
-  pub feeds_too_long : front_at MESSAGE_LIMIT (drop at held) ≡ TooLong → Closes f stands bytes (sent ++ out) (Unreadable (start + at))
+  pub feeds_too_long : front_at MAX_MESSAGE_SIZE (drop at held) ≡ TooLong → Closes f stands bytes (sent ++ out) (Unreadable (start + at))
   feeds_too_long e = closes_at_too_long f stands bytes (drop at held) (sent ++ out) (start + at) (h.reads bytes sent r len) e (offset bytes held start at h.within len)
 
   pub feeds_begins : AnswersBegin f bytes (sent ++ out)

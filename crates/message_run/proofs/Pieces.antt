@@ -6,7 +6,7 @@ use Rattle.std.proofs.lemmas.List.{append-nil, length-append}
 use Rattle.grpc_framing.specs.declared.front.Front.TheVariants.{NeedMore}
 use Rattle.grpc_framing.specs.Framing.{front_at, messages_of, all_then}
 use Rattle.message_run.specs.Behaviour.{Behaviour, trace_from}
-use Rattle.message_run.specs.Outcomes.{Close, MESSAGE_LIMIT}
+use Rattle.message_run.specs.Outcomes.{Close, MAX_MESSAGE_SIZE}
 use Rattle.message_run.specs.Written.{Wrote, WrotePart}
 use Rattle.message_run.specs.Reading.{HandledSoFar, AnswersBegin, RunContinues, ClosesIfSome, RunStops, close_of}
 use Rattle.message_run.specs.declared.stop.Stop.{Stop}
@@ -17,7 +17,7 @@ use Rattle.message_run.proofs.Streams.{begins_so}
 pub holds_more : (f : Behaviour) (stands : List (List ℕ) → Type 0) (bytes held piece written : List ℕ) → HandledSoFar f stands bytes held written → HandledSoFar f stands (bytes ++ piece) (held ++ piece) written
 holds_more f stands bytes held piece written h = record {
   messages = h.messages;
-  leads = λ more. ap (messages_of MESSAGE_LIMIT) (append_assoc bytes piece more) ∙ h.leads (piece ++ more) ∙ ap (λ (x : List ℕ). all_then h.messages (messages_of MESSAGE_LIMIT x)) (sym (append_assoc held piece more));
+  leads = λ more. ap (messages_of MAX_MESSAGE_SIZE) (append_assoc bytes piece more) ∙ h.leads (piece ++ more) ∙ ap (λ (x : List ℕ). all_then h.messages (messages_of MAX_MESSAGE_SIZE x)) (sym (append_assoc held piece more));
   goes = h.goes;
   stood = h.stood;
   size = omega (arith, h.size, length-append bytes piece, length-append held piece);
@@ -37,7 +37,7 @@ reads_empty f stands bytes held piece sent held' out all none h = rw (all, none,
 
 -- the first of the answers were written
 part_of : (f : Behaviour) (bytes sent out : List ℕ) (before now after : Option (List ℕ)) → AnswersBegin f bytes (sent ++ out) → Wrote before sent now → WrotePart now out after
-    → WrotePart before (trace_from f [] (messages_of MESSAGE_LIMIT bytes).messages).written after
+    → WrotePart before (trace_from f [] (messages_of MAX_MESSAGE_SIZE bytes).messages).written after
 part_of f bytes sent out before now after b first w = record {
   written = sent ++ w.written;
   others = w.others ++ b.others;
@@ -60,7 +60,7 @@ stops_before f stands later stop bytes held piece before now none g w =
     (subst (λ (x : List ℕ). AnswersBegin f (bytes ++ piece) x) (sym (append-nil g.sent)) (begins_so f stands (bytes ++ piece) (held ++ piece) g.sent (holds_more f stands bytes held piece g.sent g.reads))) g.wrote w
 
 -- the answers were written
-pub served : (f : Behaviour) (later : List (List ℕ) → Type 0) (result : Option Stop) (bytes held sent out : List ℕ) (before now after : Option (List ℕ)) → IfNone result (HandledSoFar f later bytes held (sent ++ out)) → IfNone result (front_at MESSAGE_LIMIT held ≡ NeedMore)
+pub served : (f : Behaviour) (later : List (List ℕ) → Type 0) (result : Option Stop) (bytes held sent out : List ℕ) (before now after : Option (List ℕ)) → IfNone result (HandledSoFar f later bytes held (sent ++ out)) → IfNone result (front_at MAX_MESSAGE_SIZE held ≡ NeedMore)
     → IfSome result (λ stop. ClosesIfSome f later bytes (sent ++ out) (close_of stop)) → AnswersBegin f bytes (sent ++ out) → Wrote before sent now → Wrote now out after
     → MatchOption result (RunContinues f later bytes held before after) (λ stop. RunStops f later bytes before stop after)
 served f later None bytes held sent out before now after reads partial stops b first w = record { sent = sent ++ out; reads = reads; partial = partial; wrote = wrote_more before now after sent out first w }

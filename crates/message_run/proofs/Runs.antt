@@ -10,7 +10,7 @@ use Rattle.grpc_framing.specs.Framing.{Messages, messages_of, all_then, items}
 use Rattle.grpc_framing.proofs.Fronts.{front_at-nil}
 use Rattle.grpc_framing.proofs.Streams.{messages_of-need_more}
 use Rattle.message_run.specs.Behaviour.{Behaviour, MessageTrace, trace_from}
-use Rattle.message_run.specs.Outcomes.{Close, Complete, Unreadable, Outcome, messages_in, outcome_at, outcome_of, close_at_rest, IsGoingOn, MESSAGE_LIMIT, MAX_INPUT_SIZE}
+use Rattle.message_run.specs.Outcomes.{Close, Complete, Unreadable, Outcome, messages_in, outcome_at, outcome_of, close_at_rest, IsGoingOn, MAX_MESSAGE_SIZE, MAX_INPUT_SIZE}
 use Rattle.message_run.specs.Written.{Wrote, WrotePart}
 use Rattle.message_run.specs.Reading.{RunContinues, RunStops, Stopped, IsOfPieces, close_of, with_prefix, stop_at}
 use Rattle.message_run.specs.Runs.{Told}
@@ -23,9 +23,9 @@ use Rattle.message_run.proofs.Streams.{few_read}
 -- the bytes so far are served
 pub record IsRunning (f : Behaviour) (stands : List (List ℕ) → Type 0) (told : Told) (held : List ℕ) (taken : ℕ) : Type 0 where
   pub bytes : List ℕ
-  pub on : RunContinues f stands bytes held told.before told.after
-  pub taken_is : told.taken_after ≡ option_map (λ given. given ++ bytes) told.taken_before
-  pub left_is : told.left_before ≡ option_map (λ rest. bytes ++ rest) told.left_after
+  pub on : RunContinues f stands bytes held told.sink.before told.sink.after
+  pub taken_is : told.source.taken_after ≡ option_map (λ given. given ++ bytes) told.source.taken_before
+  pub left_is : told.source.left_before ≡ option_map (λ rest. bytes ++ rest) told.source.left_after
   pub count : length bytes ≡ taken
   pub short : taken ≤ MAX_INPUT_SIZE
 
@@ -49,35 +49,35 @@ left_more a b (Some x) v w p q = p ∙ ap (option_map (λ (rest : List ℕ). v +
 
 -- ---- messages of an input
 
-pub short_messages : (input : List ℕ) → length input ≤ MAX_INPUT_SIZE → messages_in input ≡ messages_of MESSAGE_LIMIT input
-short_messages input le = ap (messages_of MESSAGE_LIMIT) (take_all MAX_INPUT_SIZE input le)
+pub short_messages : (input : List ℕ) → length input ≤ MAX_INPUT_SIZE → messages_in input ≡ messages_of MAX_MESSAGE_SIZE input
+short_messages input le = ap (messages_of MAX_MESSAGE_SIZE) (take_all MAX_INPUT_SIZE input le)
 
 -- the messages of an input that is too long
-past_messages : (bytes more : List ℕ) → length bytes ≡ MAX_INPUT_SIZE → messages_in (bytes ++ more) ≡ messages_of MESSAGE_LIMIT bytes
-past_messages bytes more len = ap (messages_of MESSAGE_LIMIT) (take_at bytes more MAX_INPUT_SIZE len)
+past_messages : (bytes more : List ℕ) → length bytes ≡ MAX_INPUT_SIZE → messages_in (bytes ++ more) ≡ messages_of MAX_MESSAGE_SIZE bytes
+past_messages bytes more len = ap (messages_of MAX_MESSAGE_SIZE) (take_at bytes more MAX_INPUT_SIZE len)
 
 take_short : (bytes rest : List ℕ) (limit : ℕ) → length bytes ≤ limit → take limit (bytes ++ rest) ≡ bytes ++ take (limit - length bytes) rest
 take_short bytes rest limit le =
     let k : limit ≡ length bytes + (limit - length bytes) = omega arith in
     ap (λ (x : ℕ). take x (bytes ++ rest)) k ∙ take-append-add bytes rest (limit - length bytes)
 
-more_messages : (bytes rest : List ℕ) → length bytes ≤ MAX_INPUT_SIZE → messages_in (bytes ++ rest) ≡ messages_of MESSAGE_LIMIT (bytes ++ take (MAX_INPUT_SIZE - length bytes) rest)
-more_messages bytes rest le = ap (messages_of MESSAGE_LIMIT) (take_short bytes rest MAX_INPUT_SIZE le)
+more_messages : (bytes rest : List ℕ) → length bytes ≤ MAX_INPUT_SIZE → messages_in (bytes ++ rest) ≡ messages_of MAX_MESSAGE_SIZE (bytes ++ take (MAX_INPUT_SIZE - length bytes) rest)
+more_messages bytes rest le = ap (messages_of MAX_MESSAGE_SIZE) (take_short bytes rest MAX_INPUT_SIZE le)
 
 -- ---- where the bytes so far end
 
 module _ (f : Behaviour) (stands : List (List ℕ) → Type 0) (bytes held : List ℕ) (before now : Option (List ℕ)) (h : RunContinues f stands bytes held before now) where
-  cut_at_rest : messages_of MESSAGE_LIMIT bytes ≡ record { messages = h.reads.messages; rest = held; ending = NeedMore }
+  cut_at_rest : messages_of MAX_MESSAGE_SIZE bytes ≡ record { messages = h.reads.messages; rest = held; ending = NeedMore }
   cut_at_rest =
-      ap (messages_of MESSAGE_LIMIT) (sym (append-nil bytes)) ∙ h.reads.leads [] ∙ ap (λ (x : List ℕ). all_then h.reads.messages (messages_of MESSAGE_LIMIT x)) (append-nil held)
-      ∙ ap (all_then h.reads.messages) (messages_of-need_more MESSAGE_LIMIT held h.partial) ∙ ap (λ (x : List (List ℕ)). record { messages = x; rest = held; ending = NeedMore }) (append-nil h.reads.messages)
+      ap (messages_of MAX_MESSAGE_SIZE) (sym (append-nil bytes)) ∙ h.reads.leads [] ∙ ap (λ (x : List ℕ). all_then h.reads.messages (messages_of MAX_MESSAGE_SIZE x)) (append-nil held)
+      ∙ ap (all_then h.reads.messages) (messages_of-need_more MAX_MESSAGE_SIZE held h.partial) ∙ ap (λ (x : List (List ℕ)). record { messages = x; rest = held; ending = NeedMore }) (append-nil h.reads.messages)
 
   trace_at_rest : trace_from f [] h.reads.messages ≡ record { done = h.reads.messages; written = h.sent; ending = None }
   trace_at_rest =
       ap (trace_from f []) (sym (append-nil h.reads.messages)) ∙ h.reads.goes [] ∙ ap (with_prefix h.sent) (trace_none f h.reads.messages)
       ∙ ap (λ (x : List ℕ). record { done = h.reads.messages; written = x; ending = None }) (append-nil h.sent)
 
-  pub outcome_at_rest : (count : ℕ) → outcome_at f count (messages_of MESSAGE_LIMIT bytes) ≡ record { done = h.reads.messages; written = h.sent; close = close_at_rest count (length (items h.reads.messages)) held NeedMore }
+  pub outcome_at_rest : (count : ℕ) → outcome_at f count (messages_of MAX_MESSAGE_SIZE bytes) ≡ record { done = h.reads.messages; written = h.sent; close = close_at_rest count (length (items h.reads.messages)) held NeedMore }
   outcome_at_rest count =
       ap (outcome_at f count) cut_at_rest
       ∙ outcome_is f count (record { messages = h.reads.messages; rest = held; ending = NeedMore }) (record { done = h.reads.messages; written = h.sent; ending = None }) trace_at_rest
@@ -91,9 +91,9 @@ none_closes : (close : Close) → None ≡ Some close → ⊥
 none_closes close e = cc
 
 -- it closes with this outcome
-stopped_with : (f : Behaviour) (stands : List (List ℕ) → Type 0) (stop : Stop) (told : Told) (bytes : List ℕ) (o : Outcome) → told.taken_after ≡ option_map (λ given. given ++ bytes) told.taken_before
-    → told.left_before ≡ option_map (λ rest. bytes ++ rest) told.left_after → outcome_of f bytes ≡ o → close_of stop ≡ Some o.close → Wrote told.before o.written told.after → stands o.done → length o.done ≤ MAX_INPUT_SIZE
-    → ((rest : List ℕ) → told.left_after ≡ Some rest → outcome_of f (bytes ++ rest) ≡ o) → (stop ≡ why.Finished → IfSome told.left_after (λ rest. rest ≡ [])) → Stopped f stands stop told
+stopped_with : (f : Behaviour) (stands : List (List ℕ) → Type 0) (stop : Stop) (told : Told) (bytes : List ℕ) (o : Outcome) → told.source.taken_after ≡ option_map (λ given. given ++ bytes) told.source.taken_before
+    → told.source.left_before ≡ option_map (λ rest. bytes ++ rest) told.source.left_after → outcome_of f bytes ≡ o → close_of stop ≡ Some o.close → Wrote told.sink.before o.written told.sink.after → stands o.done → length o.done ≤ MAX_INPUT_SIZE
+    → ((rest : List ℕ) → told.source.left_after ≡ Some rest → outcome_of f (bytes ++ rest) ≡ o) → (stop ≡ why.Finished → IfSome told.source.left_after (λ rest. rest ≡ [])) → Stopped f stands stop told
 stopped_with f stands stop told bytes o taken_is left_is is close_is wrote stood few still over = record {
   taken = bytes;
   taken_is = taken_is;
@@ -102,18 +102,18 @@ stopped_with f stands stop told bytes o taken_is left_is is close_is wrote stood
   still = λ close e rest l. still rest l ∙ sym is;
   over = over;
   failed = λ e. absurd (none_closes o.close (sym (ap close_of e) ∙ close_is));
-  answers = rw is (wrote_whole told.before told.after o.written wrote);
+  answers = rw is (wrote_whole told.sink.before told.sink.after o.written wrote);
 }
 
 module _ (f : Behaviour) (stands : List (List ℕ) → Type 0) (told : Told) (held : List ℕ) (taken : ℕ) (h : IsRunning f stands told held taken) where
   outcome_now : (count : ℕ) → outcome_at f count (messages_in h.bytes) ≡ record { done = h.on.reads.messages; written = h.on.sent; close = close_at_rest count (length (items h.on.reads.messages)) held NeedMore }
-  outcome_now count = ap (outcome_at f count) (short_messages h.bytes (omega (arith, h.count, h.short))) ∙ outcome_at_rest f stands h.bytes held told.before told.after h.on count
+  outcome_now count = ap (outcome_at f count) (short_messages h.bytes (omega (arith, h.count, h.short))) ∙ outcome_at_rest f stands h.bytes held told.sink.before told.sink.after h.on count
 
   cut_now : messages_in h.bytes ≡ record { messages = h.on.reads.messages; rest = held; ending = NeedMore }
-  cut_now = short_messages h.bytes (omega (arith, h.count, h.short)) ∙ cut_at_rest f stands h.bytes held told.before told.after h.on
+  cut_now = short_messages h.bytes (omega (arith, h.count, h.short)) ∙ cut_at_rest f stands h.bytes held told.sink.before told.sink.after h.on
 
   going_now : IsGoingOn f h.bytes
-  going_now = (ap (λ (x : Messages). (trace_from f [] x.messages).ending) cut_now ∙ ap (λ (x : MessageTrace). x.ending) (trace_at_rest f stands h.bytes held told.before told.after h.on), ap (λ (x : Messages). x.ending) cut_now)
+  going_now = (ap (λ (x : Messages). (trace_from f [] x.messages).ending) cut_now ∙ ap (λ (x : MessageTrace). x.ending) (trace_at_rest f stands h.bytes held told.sink.before told.sink.after h.on), ap (λ (x : Messages). x.ending) cut_now)
 
   few_now : length h.on.reads.messages ≤ MAX_INPUT_SIZE
   few_now = omega (arith, few_read f stands h.bytes held h.on.sent h.on.reads, h.count, h.short)
@@ -128,7 +128,7 @@ module _ (f : Behaviour) (stands : List (List ℕ) → Type 0) (told : Told) (he
     still = λ close e. absurd cc;
     over = λ e. absurd cc;
     failed = λ e. (rw (outcome_now (length h.bytes)) h.on.reads.stood, rw (outcome_now (length h.bytes)) h.on.wrote, going_now);
-    answers = rw (outcome_now (length h.bytes)) (wrote_whole told.before told.after h.on.sent h.on.wrote);
+    answers = rw (outcome_now (length h.bytes)) (wrote_whole told.sink.before told.sink.after h.on.sent h.on.wrote);
   }
 
 end_of : (b : Bool) (place offset : ℕ) → offset ≡ place → close_of (if b then why.Finished else why.Unreadable place) ≡ Some (if b then Complete else Unreadable offset)
@@ -143,7 +143,7 @@ nothing_left None rest e h = absurd cc
 nothing_left (Some l) rest e h = let same : l ≡ rest = cc in sym same ∙ h
 
 -- the input is over
-pub stopped_at_end : (f : Behaviour) (stands : List (List ℕ) → Type 0) (told : Told) (held : List ℕ) (taken : ℕ) → IsRunning f stands told held taken → IfSome told.left_after (λ rest. rest ≡ []) → Stopped f stands (stop_at taken (length held)) told
+pub stopped_at_end : (f : Behaviour) (stands : List (List ℕ) → Type 0) (told : Told) (held : List ℕ) (taken : ℕ) → IsRunning f stands told held taken → IfSome told.source.left_after (λ rest. rest ≡ []) → Stopped f stands (stop_at taken (length held)) told
 stopped_at_end f stands told held taken h over =
     let count = length h.bytes in
     let offset = length (items h.on.reads.messages) in
@@ -151,13 +151,13 @@ stopped_at_end f stands told held taken h over =
     let now : outcome_of f h.bytes ≡ o = outcome_now f stands told held taken h count in
     stopped_with f stands (stop_at taken (length held)) told h.bytes o h.taken_is h.left_is now
     (end_closes count taken offset held (omega (arith, h.count, h.short)) (omega (arith, h.on.reads.size, h.count))) h.on.wrote h.on.reads.stood (few_now f stands told held taken h)
-    (λ rest l. ap (λ (x : List ℕ). outcome_of f (h.bytes ++ x)) (nothing_left told.left_after rest l over) ∙ ap (outcome_of f) (append-nil h.bytes) ∙ now) (λ e. over)
+    (λ rest l. ap (λ (x : List ℕ). outcome_of f (h.bytes ++ x)) (nothing_left told.source.left_after rest l over) ∙ ap (outcome_of f) (append-nil h.bytes) ∙ now) (λ e. over)
 
 -- ---- one piece more
 
 -- what is told after a call that took a piece, and wrote up to here
 abbrev pub then_told : Told → Option (List ℕ) → Option (List ℕ) → Option (List ℕ) → Told
-then_told told taken left after = record { taken_before = told.taken_before; taken_after = taken; left_before = told.left_before; left_after = left; before = told.before; after = after }
+then_told told taken left after = record { source = record { taken_before = told.source.taken_before; taken_after = taken; left_before = told.source.left_before; left_after = left }; sink = record { before = told.sink.before; after = after } }
 
 past_closes : (count offset : ℕ) (held : List ℕ) → MAX_INPUT_SIZE < count → close_at_rest count offset held NeedMore ≡ Unreadable MAX_INPUT_SIZE
 past_closes count offset held lt = rw (lt-ltb MAX_INPUT_SIZE count lt) refl
@@ -171,14 +171,14 @@ past_outcome f stands bytes more held before now h len some =
 
 -- a byte past the longest input
 pub stopped_past : (f : Behaviour) (stands : List (List ℕ) → Type 0) (told : Told) (held piece : List ℕ) (count : ℕ) (taken left : Option (List ℕ)) (h : IsRunning f stands told held count) → count ≡ MAX_INPUT_SIZE
-    → taken ≡ option_map (λ given. given ++ piece) told.taken_after → told.left_after ≡ option_map (λ rest. piece ++ rest) left → 1 ≤ length piece → Stopped f stands (why.Unreadable MAX_INPUT_SIZE) (then_told told taken left told.after)
+    → taken ≡ option_map (λ given. given ++ piece) told.source.taken_after → told.source.left_after ≡ option_map (λ rest. piece ++ rest) left → 1 ≤ length piece → Stopped f stands (why.Unreadable MAX_INPUT_SIZE) (then_told told taken left told.sink.after)
 stopped_past f stands told held piece count taken left h full t l some =
     let bytes = h.bytes ++ piece in
     let len : length h.bytes ≡ MAX_INPUT_SIZE = h.count ∙ full in
-    stopped_with f stands (why.Unreadable MAX_INPUT_SIZE) (then_told told taken left told.after) bytes (record { done = h.on.reads.messages; written = h.on.sent; close = Unreadable MAX_INPUT_SIZE })
-    (taken_more told.taken_before told.taken_after taken h.bytes piece h.taken_is t) (left_more told.left_before told.left_after left h.bytes piece h.left_is l)
-    (past_outcome f stands h.bytes piece held told.before told.after h.on len some) refl h.on.wrote h.on.reads.stood (few_now f stands told held count h)
-    (λ rest e. ap (outcome_of f) (append_assoc h.bytes piece rest) ∙ past_outcome f stands h.bytes (piece ++ rest) held told.before told.after h.on len (omega (arith, length-append piece rest, some))) (λ e. absurd cc)
+    stopped_with f stands (why.Unreadable MAX_INPUT_SIZE) (then_told told taken left told.sink.after) bytes (record { done = h.on.reads.messages; written = h.on.sent; close = Unreadable MAX_INPUT_SIZE })
+    (taken_more told.source.taken_before told.source.taken_after taken h.bytes piece h.taken_is t) (left_more told.source.left_before told.source.left_after left h.bytes piece h.left_is l)
+    (past_outcome f stands h.bytes piece held told.sink.before told.sink.after h.on len some) refl h.on.wrote h.on.reads.stood (few_now f stands told held count h)
+    (λ rest e. ap (outcome_of f) (append_assoc h.bytes piece rest) ∙ past_outcome f stands h.bytes (piece ++ rest) held told.sink.before told.sink.after h.on len (omega (arith, length-append piece rest, some))) (λ e. absurd cc)
 
 pub not_finished : (stop : Stop) → IsOfPieces stop → stop ≡ why.Finished → ⊥
 not_finished why.Finished h e = h
@@ -201,50 +201,50 @@ written_is f count cut = ap (λ (x : Outcome). x.written) (outcome_is f count cu
 
 -- the messages of the piece stop the run
 pub stopped_by : (f : Behaviour) (stands later : List (List ℕ) → Type 0) (stop : Stop) (told : Told) (held piece : List ℕ) (count : ℕ) (taken left after : Option (List ℕ)) (h : IsRunning f stands told held count)
-    → taken ≡ option_map (λ given. given ++ piece) told.taken_after → told.left_after ≡ option_map (λ rest. piece ++ rest) left → count + length piece ≤ MAX_INPUT_SIZE → RunStops f later (h.bytes ++ piece) told.before stop after → IsOfPieces stop
+    → taken ≡ option_map (λ given. given ++ piece) told.source.taken_after → told.source.left_after ≡ option_map (λ rest. piece ++ rest) left → count + length piece ≤ MAX_INPUT_SIZE → RunStops f later (h.bytes ++ piece) told.sink.before stop after → IsOfPieces stop
     → Stopped f later stop (then_told told taken left after)
 stopped_by f stands later stop told held piece count taken left after h t l le s kind =
     let bytes = h.bytes ++ piece in
     let short : length bytes ≤ MAX_INPUT_SIZE = omega (arith, length-append h.bytes piece, h.count, le) in
-    let written : (outcome_of f bytes).written ≡ (trace_from f [] (messages_of MESSAGE_LIMIT bytes).messages).written
+    let written : (outcome_of f bytes).written ≡ (trace_from f [] (messages_of MAX_MESSAGE_SIZE bytes).messages).written
     = written_is f (length bytes) (messages_in bytes) ∙ ap (λ (x : Messages). (trace_from f [] x.messages).written) (short_messages bytes short) in
     record {
       taken = bytes;
-      taken_is = taken_more told.taken_before told.taken_after taken h.bytes piece h.taken_is t;
-      left_is = left_more told.left_before told.left_after left h.bytes piece h.left_is l;
+      taken_is = taken_more told.source.taken_before told.source.taken_after taken h.bytes piece h.taken_is t;
+      left_is = left_more told.source.left_before told.source.left_after left h.bytes piece h.left_is l;
       closes = λ close e.
           let c = s.closes close e in
           let is : outcome_of f bytes ≡ record { done = c.1.messages; written = c.0; close = close }
-          = ap (outcome_at f (length bytes)) (short_messages bytes short ∙ ap (messages_of MESSAGE_LIMIT) (sym (append-nil bytes))) ∙ c.1.closes (length bytes) [] in
+          = ap (outcome_at f (length bytes)) (short_messages bytes short ∙ ap (messages_of MAX_MESSAGE_SIZE) (sym (append-nil bytes))) ∙ c.1.closes (length bytes) [] in
           rw is (refl, c.2, c.1.stood, omega (arith, c.1.few, short));
       still = λ close e rest r.
           let c = s.closes close e in
           ap (outcome_at f (length (bytes ++ rest))) (more_messages bytes rest short) ∙ c.1.closes (length (bytes ++ rest)) (take (MAX_INPUT_SIZE - length bytes) rest)
-          ∙ sym (ap (outcome_at f (length bytes)) (short_messages bytes short ∙ ap (messages_of MESSAGE_LIMIT) (sym (append-nil bytes))) ∙ c.1.closes (length bytes) []);
+          ∙ sym (ap (outcome_at f (length bytes)) (short_messages bytes short ∙ ap (messages_of MAX_MESSAGE_SIZE) (sym (append-nil bytes))) ∙ c.1.closes (length bytes) []);
       over = λ e. absurd (not_finished stop kind e);
       failed = λ e. absurd (not_read_fault stop kind e);
-      answers = subst (λ (x : List ℕ). WrotePart told.before x after) (sym written) s.part;
+      answers = subst (λ (x : List ℕ). WrotePart told.sink.before x after) (sym written) s.part;
     }
 
 pub running_on : (f : Behaviour) (stands later : List (List ℕ) → Type 0) (told : Told) (held held' piece : List ℕ) (count : ℕ) (taken left after : Option (List ℕ)) (h : IsRunning f stands told held count)
-    → taken ≡ option_map (λ given. given ++ piece) told.taken_after → told.left_after ≡ option_map (λ rest. piece ++ rest) left → count + length piece ≤ MAX_INPUT_SIZE → RunContinues f later (h.bytes ++ piece) held' told.before after
+    → taken ≡ option_map (λ given. given ++ piece) told.source.taken_after → told.source.left_after ≡ option_map (λ rest. piece ++ rest) left → count + length piece ≤ MAX_INPUT_SIZE → RunContinues f later (h.bytes ++ piece) held' told.sink.before after
     → IsRunning f later (then_told told taken left after) held' (count + length piece)
 running_on f stands later told held held' piece count taken left after h t l le g = record {
   bytes = h.bytes ++ piece;
   on = g;
-  taken_is = taken_more told.taken_before told.taken_after taken h.bytes piece h.taken_is t;
-  left_is = left_more told.left_before told.left_after left h.bytes piece h.left_is l;
+  taken_is = taken_more told.source.taken_before told.source.taken_after taken h.bytes piece h.taken_is t;
+  left_is = left_more told.source.left_before told.source.left_after left h.bytes piece h.left_is l;
   count = omega (arith, length-append h.bytes piece, h.count);
   short = le;
 }
 
-pub running_first : (f : Behaviour) (stands : List (List ℕ) → Type 0) (taken left placed : Option (List ℕ)) → stands [] → IsRunning f stands (record { taken_before = taken; taken_after = taken; left_before = left; left_after = left; before = placed; after = placed }) [] 0
+pub running_first : (f : Behaviour) (stands : List (List ℕ) → Type 0) (taken left placed : Option (List ℕ)) → stands [] → IsRunning f stands (record { source = record { taken_before = taken; taken_after = taken; left_before = left; left_after = left }; sink = record { before = placed; after = placed } }) [] 0
 running_first f stands taken left placed h = record {
   bytes = [];
   on = record {
     sent = [];
     reads = record { messages = []; leads = λ more. refl; goes = λ others. refl; stood = h; size = refl };
-    partial = front_at-nil MESSAGE_LIMIT;
+    partial = front_at-nil MAX_MESSAGE_SIZE;
     wrote = wrote_nothing placed;
   };
   taken_is = no_taken taken;
@@ -256,17 +256,17 @@ running_first f stands taken left placed h = record {
 -- ---- the same of a server whose answering is the first one's
 
 pub stopped_by_piece : (f g : Behaviour) → g ≡ f → (stands later : List (List ℕ) → Type 0) (stop : Stop) (told : Told) (held piece : List ℕ) (count : ℕ) (taken left after : Option (List ℕ)) → IsRunning f stands told held count
-    → taken ≡ option_map (λ given. given ++ piece) told.taken_after → told.left_after ≡ option_map (λ rest. piece ++ rest) left → count + length piece ≤ MAX_INPUT_SIZE
-    → ((bytes : List ℕ) → (before : Option (List ℕ)) → RunContinues g stands bytes held before told.after → length bytes ≡ count → RunStops g later (bytes ++ piece) before stop after) → IsOfPieces stop
+    → taken ≡ option_map (λ given. given ++ piece) told.source.taken_after → told.source.left_after ≡ option_map (λ rest. piece ++ rest) left → count + length piece ≤ MAX_INPUT_SIZE
+    → ((bytes : List ℕ) → (before : Option (List ℕ)) → RunContinues g stands bytes held before told.sink.after → length bytes ≡ count → RunStops g later (bytes ++ piece) before stop after) → IsOfPieces stop
     → Stopped f later stop (then_told told taken left after)
 stopped_by_piece f g same stands later stop told held piece count taken left after h t l le stops kind =
-    let on = subst (λ (x : Behaviour). RunContinues x stands h.bytes held told.before told.after) (sym same) h.on in
-    stopped_by f stands later stop told held piece count taken left after h t l le (subst (λ (x : Behaviour). RunStops x later (h.bytes ++ piece) told.before stop after) same (stops h.bytes told.before on h.count)) kind
+    let on = subst (λ (x : Behaviour). RunContinues x stands h.bytes held told.sink.before told.sink.after) (sym same) h.on in
+    stopped_by f stands later stop told held piece count taken left after h t l le (subst (λ (x : Behaviour). RunStops x later (h.bytes ++ piece) told.sink.before stop after) same (stops h.bytes told.sink.before on h.count)) kind
 
 pub running_by_piece : (f g : Behaviour) → g ≡ f → (stands later : List (List ℕ) → Type 0) (told : Told) (held held' piece : List ℕ) (count : ℕ) (taken left after : Option (List ℕ)) → IsRunning f stands told held count
-    → taken ≡ option_map (λ given. given ++ piece) told.taken_after → told.left_after ≡ option_map (λ rest. piece ++ rest) left → count + length piece ≤ MAX_INPUT_SIZE
-    → ((bytes : List ℕ) → (before : Option (List ℕ)) → RunContinues g stands bytes held before told.after → length bytes ≡ count → RunContinues g later (bytes ++ piece) held' before after)
+    → taken ≡ option_map (λ given. given ++ piece) told.source.taken_after → told.source.left_after ≡ option_map (λ rest. piece ++ rest) left → count + length piece ≤ MAX_INPUT_SIZE
+    → ((bytes : List ℕ) → (before : Option (List ℕ)) → RunContinues g stands bytes held before told.sink.after → length bytes ≡ count → RunContinues g later (bytes ++ piece) held' before after)
     → IsRunning f later (then_told told taken left after) held' (count + length piece)
 running_by_piece f g same stands later told held held' piece count taken left after h t l le goes =
-    let on = subst (λ (x : Behaviour). RunContinues x stands h.bytes held told.before told.after) (sym same) h.on in
-    running_on f stands later told held held' piece count taken left after h t l le (subst (λ (x : Behaviour). RunContinues x later (h.bytes ++ piece) held' told.before after) same (goes h.bytes told.before on h.count))
+    let on = subst (λ (x : Behaviour). RunContinues x stands h.bytes held told.sink.before told.sink.after) (sym same) h.on in
+    running_on f stands later told held held' piece count taken left after h t l le (subst (λ (x : Behaviour). RunContinues x later (h.bytes ++ piece) held' told.sink.before after) same (goes h.bytes told.sink.before on h.count))

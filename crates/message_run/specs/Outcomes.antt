@@ -12,12 +12,12 @@ abbrev pub MAX_INPUT_SIZE : ℕ
 MAX_INPUT_SIZE = 2 ^ 40
 
 -- how many bytes a message may have
-abbrev pub MESSAGE_LIMIT : ℕ
-MESSAGE_LIMIT = 4194304
+abbrev pub MAX_MESSAGE_SIZE : ℕ
+MAX_MESSAGE_SIZE = 4194304
 
 -- the messages of an input, as far as it may be long
 abbrev pub messages_in : List ℕ → Messages
-messages_in input = messages_of MESSAGE_LIMIT (take MAX_INPUT_SIZE input)
+messages_in input = messages_of MAX_MESSAGE_SIZE (take MAX_INPUT_SIZE input)
 
 -- A run closes where all of the input was read and answered, where a reply refused the stream, with its status number of gRPC,
 -- and where the input can't be read, at this place of it.
@@ -68,9 +68,13 @@ outcome_of f input = outcome_at f (length input) (messages_in input)
 
 -- ---- the output and the status
 
+-- an item with this flag byte; a message's is 0
+abbrev pub flagged_item : ℕ → List ℕ → List ℕ
+flagged_item flag bytes = flag ∷ (to_be_bytes w32 (length bytes) ++ bytes)
+
 -- a last item: its byte in place of a message's flag, four bytes of length, the highest first, and a number in decimal digits
 abbrev pub trailer : ℕ → ℕ → List ℕ
-trailer flag number = flag ∷ (to_be_bytes w32 (length (decimal number)) ++ decimal number)
+trailer flag number = flagged_item flag (decimal number)
 
 -- 0x80 with the status number of gRPC, and 0x81 with the place in the input
 abbrev pub trailer_of : Close → List ℕ

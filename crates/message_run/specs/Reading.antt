@@ -4,7 +4,7 @@ use Rattle.std.specs.Option.{option_map}
 use Rattle.grpc_framing.specs.Framing.{front_at, messages_of, all_then, items}
 use Rattle.message_run.specs.Behaviour.{Behaviour, MessageTrace, trace_from}
 use Rattle.grpc_framing.specs.declared.front.Front.TheVariants.{NeedMore}
-use Rattle.message_run.specs.Outcomes.{Close, Complete, Refused, Unreadable, outcome_at, outcome_of, IsGoingOn, MESSAGE_LIMIT, MAX_INPUT_SIZE}
+use Rattle.message_run.specs.Outcomes.{Close, Complete, Refused, Unreadable, outcome_at, outcome_of, IsGoingOn, MAX_MESSAGE_SIZE, MAX_INPUT_SIZE}
 use Rattle.message_run.specs.Written.{Wrote, WrotePart}
 use Rattle.message_run.specs.Runs.{Told}
 use Rattle.message_run.specs.declared.stop.Stop.{Stop}
@@ -16,7 +16,7 @@ with_prefix written c = record { done = c.done; written = written ++ c.written; 
 -- The messages of these bytes up to the held ones are done, and their answers were written; whatever follows, those go on from there.
 pub record HandledSoFar (f : Behaviour) (stands : List (List ℕ) → Type 0) (bytes held written : List ℕ) : Type 0 where
   pub messages : List (List ℕ)
-  pub leads : (more : List ℕ) → messages_of MESSAGE_LIMIT (bytes ++ more) ≡ all_then messages (messages_of MESSAGE_LIMIT (held ++ more))
+  pub leads : (more : List ℕ) → messages_of MAX_MESSAGE_SIZE (bytes ++ more) ≡ all_then messages (messages_of MAX_MESSAGE_SIZE (held ++ more))
   pub goes : (others : List (List ℕ)) → trace_from f [] (messages ++ others) ≡ with_prefix written (trace_from f messages others)
   pub stood : stands messages
   pub size : length bytes ≡ length (items messages) + length held
@@ -24,14 +24,15 @@ pub record HandledSoFar (f : Behaviour) (stands : List (List ℕ) → Type 0) (b
 -- The run closes at these bytes, whatever follows them.
 pub record Closes (f : Behaviour) (stands : List (List ℕ) → Type 0) (bytes written : List ℕ) (close : Close) : Type 0 where
   pub messages : List (List ℕ)
-  pub closes : (count : ℕ) (more : List ℕ) → outcome_at f count (messages_of MESSAGE_LIMIT (bytes ++ more)) ≡ record { done = messages; written = written; close = close }
+  pub closes : (count : ℕ) (more : List ℕ)
+      → outcome_at f count (messages_of MAX_MESSAGE_SIZE (bytes ++ more)) ≡ record { done = messages; written = written; close = close }
   pub stood : stands messages
   pub few : length messages ≤ length bytes
 
 -- What was written are the first of the answers to these bytes.
 pub record AnswersBegin (f : Behaviour) (bytes written : List ℕ) : Type 0 where
   pub others : List ℕ
-  pub begins : (trace_from f [] (messages_of MESSAGE_LIMIT bytes).messages).written ≡ written ++ others
+  pub begins : (trace_from f [] (messages_of MAX_MESSAGE_SIZE bytes).messages).written ≡ written ++ others
 
 -- what a run closes with that stops so, where it closes
 abbrev pub close_of : Stop → Option Close
@@ -69,24 +70,29 @@ ClosesIfSome f stands bytes written (Some close) = Closes f stands bytes written
 pub record RunContinues (f : Behaviour) (stands : List (List ℕ) → Type 0) (bytes held : List ℕ) (before now : Option (List ℕ)) : Type 0 where
   pub sent : List ℕ
   pub reads : HandledSoFar f stands bytes held sent
-  pub partial : front_at MESSAGE_LIMIT held ≡ NeedMore
+  pub partial : front_at MAX_MESSAGE_SIZE held ≡ NeedMore
   pub wrote : Wrote before sent now
 
 -- The run stops at these bytes: the first of the answers to them were written, and all where it closes.
-pub record RunStops (f : Behaviour) (stands : List (List ℕ) → Type 0) (bytes : List ℕ) (before : Option (List ℕ)) (stop : Stop) (now : Option (List ℕ)) : Type 0 where
-  pub part : WrotePart before (trace_from f [] (messages_of MESSAGE_LIMIT bytes).messages).written now
+pub record RunStops (f : Behaviour) (stands : List (List ℕ) → Type 0) (bytes : List ℕ) (before : Option (List ℕ)) (stop : Stop)
+    (now : Option (List ℕ)) : Type 0 where
+  pub part : WrotePart before (trace_from f [] (messages_of MAX_MESSAGE_SIZE bytes).messages).written now
   pub closes : (close : Close) → close_of stop ≡ Some close → (sent : List ℕ) × Closes f stands bytes sent close × Wrote before sent now
 
 -- The run has stopped, and its last item is still to be written.
 pub record Stopped (f : Behaviour) (stands : List (List ℕ) → Type 0) (stop : Stop) (told : Told) : Type 0 where
   pub taken : List ℕ
-  pub taken_is : told.taken_after ≡ option_map (λ given. given ++ taken) told.taken_before
-  pub left_is : told.left_before ≡ option_map (λ rest. taken ++ rest) told.left_after
-  pub closes : (close : Close) → close_of stop ≡ Some close → ((outcome_of f taken).close ≡ close) × Wrote told.before (outcome_of f taken).written told.after × stands (outcome_of f taken).done × (length (outcome_of f taken).done ≤ MAX_INPUT_SIZE)
-  pub still : (close : Close) → close_of stop ≡ Some close → (rest : List ℕ) → told.left_after ≡ Some rest → outcome_of f (taken ++ rest) ≡ outcome_of f taken
-  pub over : stop ≡ why.Finished → IfSome told.left_after (λ rest. rest ≡ [])
-  pub failed : stop ≡ why.ReadFault → stands (outcome_of f taken).done × Wrote told.before (outcome_of f taken).written told.after × IsGoingOn f taken
-  pub answers : WrotePart told.before (outcome_of f taken).written told.after
+  pub taken_is : told.source.taken_after ≡ option_map (λ given. given ++ taken) told.source.taken_before
+  pub left_is : told.source.left_before ≡ option_map (λ rest. taken ++ rest) told.source.left_after
+  pub closes : (close : Close) → close_of stop ≡ Some close
+      → ((outcome_of f taken).close ≡ close) × Wrote told.sink.before (outcome_of f taken).written told.sink.after
+      × stands (outcome_of f taken).done × (length (outcome_of f taken).done ≤ MAX_INPUT_SIZE)
+  pub still : (close : Close) → close_of stop ≡ Some close → (rest : List ℕ)
+      → told.source.left_after ≡ Some rest → outcome_of f (taken ++ rest) ≡ outcome_of f taken
+  pub over : stop ≡ why.Finished → IfSome told.source.left_after (λ rest. rest ≡ [])
+  pub failed : stop ≡ why.ReadFault
+      → stands (outcome_of f taken).done × Wrote told.sink.before (outcome_of f taken).written told.sink.after × IsGoingOn f taken
+  pub answers : WrotePart told.sink.before (outcome_of f taken).written told.sink.after
 
 -- what ends a run at the end of an input of so many bytes, of which so many are held
 abbrev pub stop_at : ℕ → ℕ → Stop

@@ -1,7 +1,7 @@
 ghost use Rattle.std.specs.Prelude.{◌≡◌, ◌+◌, ◌<◌, ◌≤◌, ◌^◌, ◌++◌, List, ℕ, length, drop, IfSome, IfNone};
 ghost use Rattle.grpc_framing.specs.declared.front.Front.TheVariants.{NeedMore};
 ghost use Rattle.grpc_framing.specs.Framing.{front_at};
-ghost use Rattle.message_run.specs.Outcomes.{MESSAGE_LIMIT};
+ghost use Rattle.message_run.specs.Outcomes.{MAX_MESSAGE_SIZE};
 ghost use Rattle.message_run.specs.Reading.{HandledSoFar, AnswersBegin, ClosesIfSome, IsOfMessages, close_of};
 
 use crate::message_handler::{Handled, MessageHandler};
@@ -32,15 +32,23 @@ pub fn feed<A: MessageHandler>(
     held: &mut Vec<u8>,
     out: &mut Vec<u8>,
 ) -> Option<Stop>
-    requires reads { (bytes sent : List ℕ) × HandledSoFar (A.response server.old) (A.stands server.old) bytes held.old.items (sent ++ out.old.items) × (length bytes ≡ start + length held.old.items) }
+    requires reads { (bytes sent : List ℕ) ×
+        HandledSoFar (A.response server.old) (A.stands server.old) bytes held.old.items (sent ++ out.old.items)
+        × (length bytes ≡ start + length held.old.items) }
     requires short { start + length held.old.items < 2 ^ 61 }
     ensures response { A.response server.new ≡ A.response server.old }
-    ensures reads { (bytes sent : List ℕ) → HandledSoFar (A.response server.old) (A.stands server.old) bytes held.old.items (sent ++ out.old.items) → length bytes ≡ start + length held.old.items →
+    ensures reads { (bytes sent : List ℕ) →
+        HandledSoFar (A.response server.old) (A.stands server.old) bytes held.old.items (sent ++ out.old.items) →
+        length bytes ≡ start + length held.old.items →
         IfNone result (HandledSoFar (A.response server.old) (A.stands server.new) bytes held.new.items (sent ++ out.new.items)) }
-    ensures partial { IfNone result (front_at MESSAGE_LIMIT held.new.items ≡ NeedMore) }
-    ensures stops { (bytes sent : List ℕ) → HandledSoFar (A.response server.old) (A.stands server.old) bytes held.old.items (sent ++ out.old.items) → length bytes ≡ start + length held.old.items →
+    ensures partial { IfNone result (front_at MAX_MESSAGE_SIZE held.new.items ≡ NeedMore) }
+    ensures stops { (bytes sent : List ℕ) →
+        HandledSoFar (A.response server.old) (A.stands server.old) bytes held.old.items (sent ++ out.old.items) →
+        length bytes ≡ start + length held.old.items →
         IfSome result (λ stop. ClosesIfSome (A.response server.old) (A.stands server.new) bytes (sent ++ out.new.items) (close_of stop)) }
-    ensures begins { (bytes sent : List ℕ) → HandledSoFar (A.response server.old) (A.stands server.old) bytes held.old.items (sent ++ out.old.items) → length bytes ≡ start + length held.old.items →
+    ensures begins { (bytes sent : List ℕ) →
+        HandledSoFar (A.response server.old) (A.stands server.old) bytes held.old.items (sent ++ out.old.items) →
+        length bytes ≡ start + length held.old.items →
         AnswersBegin (A.response server.old) bytes (sent ++ out.new.items) }
     ensures kinds { IfSome result IsOfMessages }
 {

@@ -30,7 +30,8 @@ pub trait MessageHandler: Drop {
     fn handle(&mut self, message: &[u8], out: &mut Vec<u8>) -> Handled
         requires { (done : List (List ℕ)) × stands self.old done × (length done < 2 ^ 61) }
         ensures response { response self.new ≡ response self.old }
-        ensures appends { (done : List (List ℕ)) → stands self.old done → length done < 2 ^ 61 → Appends (response self.old done message.now) result out.old.items out.new.items }
+        ensures appends { (done : List (List ℕ)) → stands self.old done → length done < 2 ^ 61 →
+            Appends (response self.old done message.now) result out.old.items out.new.items }
         ensures stood { (done : List (List ℕ)) → stands self.old done → length done < 2 ^ 61 → HandledAfter (stands self.new) done message.now result };
 
     /// The stream's session leaves.

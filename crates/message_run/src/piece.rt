@@ -18,10 +18,13 @@ pub fn handle_chunk<A: MessageHandler, K: Sink>(
     out: &mut Vec<u8>,
     output: &mut K,
 ) -> Option<Stop>
-    requires goes { (bytes : List ℕ) × (before : Option (List ℕ)) × RunContinues (A.response server.old) (A.stands server.old) bytes held.old.items before (K.placed output.old) × (length bytes ≡ taken) }
+    requires goes { (bytes : List ℕ) × (before : Option (List ℕ)) ×
+        RunContinues (A.response server.old) (A.stands server.old) bytes held.old.items before (K.placed output.old)
+        × (length bytes ≡ taken) }
     requires short { taken + length piece.now < 2 ^ 61 }
     ensures response { A.response server.new ≡ A.response server.old }
-    ensures cases { (bytes : List ℕ) → (before : Option (List ℕ)) → RunContinues (A.response server.old) (A.stands server.old) bytes held.old.items before (K.placed output.old) → length bytes ≡ taken →
+    ensures cases { (bytes : List ℕ) → (before : Option (List ℕ)) →
+        RunContinues (A.response server.old) (A.stands server.old) bytes held.old.items before (K.placed output.old) → length bytes ≡ taken →
         MatchOption result (RunContinues (A.response server.old) (A.stands server.new) (bytes ++ piece.now) held.new.items before (K.placed output.new))
         (λ stop. RunStops (A.response server.old) (A.stands server.new) (bytes ++ piece.now) before stop (K.placed output.new)) }
     ensures kinds { IfSome result IsOfPieces }

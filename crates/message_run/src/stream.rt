@@ -6,7 +6,7 @@ ghost use Rattle.message_run.specs.Runs.{Told, Runs, RunsOver, IsStatus, told};
 ghost use Rattle.message_run.specs.Written.{Wrote, WrotePart};
 ghost use Rattle.message_run.specs.declared.stop.Stop.TheVariants.{ReadFault, WriteFault};
 
-use crate::last::trailer;
+use crate::item::trailer;
 use crate::message_handler::MessageHandler;
 use crate::piece::handle_chunk;
 use crate::put::write_all;
@@ -50,7 +50,8 @@ fn handle_stream<A: MessageHandler, S: Source, K: Sink>(
     requires first { A.stands server.old [] }
     requires room { length buffer.old ≡ 65536 }
     ensures response { A.response server.new ≡ A.response server.old }
-    ensures stopped { Stopped (A.response server.old) (A.stands server.new) result (told (S.taken input.old) (S.taken input.new) (S.left input.old) (S.left input.new) (K.placed output.old) (K.placed output.new)) }
+    ensures stopped { Stopped (A.response server.old) (A.stands server.new) result
+        (told S.taken S.left K.placed input.old input.new output.old output.new) }
     ensures read { HasCause (S.faults input.old) (S.faults input.new) (result ≡ ReadFault) }
     ensures read_stays { StaysUnless (S.faults input.old) (S.faults input.new) (result ≡ ReadFault) }
     ensures write { HasCause (K.faults output.old) (K.faults output.new) (result ≡ WriteFault) }
@@ -82,7 +83,8 @@ fn handle_stream<A: MessageHandler, S: Source, K: Sink>(
 fn leave_at<A: MessageHandler>(server: &mut A, stop: Stop)
     requires { (close : Close) → close_of stop ≡ Some close → (done : List (List ℕ)) × A.stands server.old done × (length done < 2 ^ 61) }
     ensures response { A.response server.new ≡ A.response server.old }
-    ensures left { (close : Close) → close_of stop ≡ Some close → (done : List (List ℕ)) → A.stands server.old done → length done < 2 ^ 61 → A.left server.new done }
+    ensures left { (close : Close) → close_of stop ≡ Some close → (done : List (List ℕ)) →
+        A.stands server.old done → length done < 2 ^ 61 → A.left server.new done }
     ensures stays { close_of stop ≡ None → server.new ≡ server.old }
 {
     if stop.closes() {
@@ -117,7 +119,8 @@ fn run_in<A: MessageHandler, S: Source, K: Sink>(
     requires first { A.stands server.old [] }
     requires room { length buffer.old ≡ 65536 }
     ensures response { A.response server.new ≡ A.response server.old }
-    ensures runs { Runs (A.response server.old) (A.stands server.new) (A.left server.new) result (told (S.taken input.old) (S.taken input.new) (S.left input.old) (S.left input.new) (K.placed output.old) (K.placed output.new)) }
+    ensures runs { Runs (A.response server.old) (A.stands server.new) (A.left server.new) result
+        (told S.taken S.left K.placed input.old input.new output.old output.new) }
     ensures status { IsStatus result }
     ensures read { HasCause (S.faults input.old) (S.faults input.new) (result ≡ 4) }
     ensures read_stays { StaysUnless (S.faults input.old) (S.faults input.new) (result ≡ 4) }
@@ -153,9 +156,12 @@ pub fn run<A: MessageHandler, S: Source, K: Sink>(
     requires first { A.stands server.old [] }
     ensures response { A.response server.new ≡ A.response server.old }
     // What is written is a function of the bytes that were taken, whether or not the source tells what is left.
-    ensures runs { Runs (A.response server.old) (A.stands server.new) (A.left server.new) result (told (S.taken input.old) (S.taken input.new) (S.left input.old) (S.left input.new) (K.placed output.old) (K.placed output.new)) }
+    ensures runs { Runs (A.response server.old) (A.stands server.new) (A.left server.new) result
+        (told S.taken S.left K.placed input.old input.new output.old output.new) }
     // Where the source tells its input, it is a function of the input.
-    ensures over { (all : List ℕ) → S.left input.old ≡ Some all → RunsOver (A.response server.old) (A.stands server.new) (A.left server.new) result all (told (S.taken input.old) (S.taken input.new) (S.left input.old) (S.left input.new) (K.placed output.old) (K.placed output.new)) }
+    ensures over { (all : List ℕ) → S.left input.old ≡ Some all →
+        RunsOver (A.response server.old) (A.stands server.new) (A.left server.new) result all
+        (told S.taken S.left K.placed input.old input.new output.old output.new) }
     ensures status { IsStatus result }
     // No failure is hidden: a status but 4 leaves the input's faults, and one but 5 the output's.
     ensures read { HasCause (S.faults input.old) (S.faults input.new) (result ≡ 4) }

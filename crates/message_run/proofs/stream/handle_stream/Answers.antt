@@ -2,7 +2,7 @@ use Rattle.std.proofs.Common.{◌≡◌, ◌+◌, ◌≤◌, ◌++◌, length, t
 use Rattle.std.specs.Option.{option_map}
 use Rattle.std.proofs.lemmas.List.{length-take, length-drop, length-append}
 use Rattle.message_run.specs.Outcomes.{MAX_INPUT_SIZE}
-use Rattle.message_run.specs.Runs.{Told}
+use Rattle.message_run.specs.Runs.{Told, told as told_by}
 use Rattle.message_run.proofs.Sinks.{stayed}
 use Rattle.message_run.proofs.Runs.{running_first, stopped_unread, stopped_at_end, stopped_past, stopped_by_piece, running_by_piece}
 use Rattle.message_run.proofs.stream.handle_stream.Goals as goal
@@ -18,23 +18,23 @@ loop-held-init g c = record {
 
 pub returns-in-Failed-clause-stopped : goal.returns-in-Failed-clause-stopped
 returns-in-Failed-clause-stopped g c =
-    let told : Told = record { taken_before = g.S.Source.taken c.args.input.now; taken_after = g.S.Source.taken c.loop-held.input; left_before = g.S.Source.left c.args.input.now; left_after = g.S.Source.left c.loop-held.input; before = g.K.Sink.placed c.args.output.now; after = g.K.Sink.placed c.loop-held.output } in
+    let told : Told = told_by g.S.Source.taken g.S.Source.left g.K.Sink.placed c.args.input.now c.loop-held.input c.args.output.now c.loop-held.output in
     rw (c.in-Failed.ensures.bytes, c.in-Failed.ensures.grows) (stopped_unread (g.A.MessageHandler.response c.args.server.now) (g.A.MessageHandler.stands c.loop-held.server) told c.loop-held.held.items c.loop-held.taken c.loop-held.invariant.running)
 
 pub returns-in-End-clause-stopped : goal.returns-in-End-clause-stopped
 returns-in-End-clause-stopped g c =
-    let told : Told = record { taken_before = g.S.Source.taken c.args.input.now; taken_after = g.S.Source.taken c.loop-held.input; left_before = g.S.Source.left c.args.input.now; left_after = g.S.Source.left c.loop-held.input; before = g.K.Sink.placed c.args.output.now; after = g.K.Sink.placed c.loop-held.output } in
+    let told : Told = told_by g.S.Source.taken g.S.Source.left g.K.Sink.placed c.args.input.now c.loop-held.input c.args.output.now c.loop-held.output in
     rw (c.stop_at_end.ensures, c.deref.ensures.value, c.in-End.ensures.bytes.0, c.in-End.ensures.grows) (stopped_at_end (g.A.MessageHandler.response c.args.server.now) (g.A.MessageHandler.stands c.loop-held.server) told c.loop-held.held.items c.loop-held.taken c.loop-held.invariant.running c.in-End.ensures.bytes.1)
 
 pub returns-then-taken-eq-MAX_INPUT_SIZE-clause-stopped : goal.returns-then-taken-eq-MAX_INPUT_SIZE-clause-stopped
 returns-then-taken-eq-MAX_INPUT_SIZE-clause-stopped g c =
-    let told : Told = record { taken_before = g.S.Source.taken c.args.input.now; taken_after = g.S.Source.taken c.loop-held.input; left_before = g.S.Source.left c.args.input.now; left_after = g.S.Source.left c.loop-held.input; before = g.K.Sink.placed c.args.output.now; after = g.K.Sink.placed c.loop-held.output } in
+    let told : Told = told_by g.S.Source.taken g.S.Source.left g.K.Sink.placed c.args.input.now c.loop-held.input c.args.output.now c.loop-held.output in
     let some : 1 ≤ length (take c.in-Got.count c.take.new.buffer) = omega (arith, length-take c.in-Got.count c.take.new.buffer, c.in-Got.ensures.bound) in
     stopped_past (g.A.MessageHandler.response c.args.server.now) (g.A.MessageHandler.stands c.loop-held.server) told c.loop-held.held.items (take c.in-Got.count c.take.new.buffer) c.loop-held.taken (g.S.Source.taken c.take.new.self) (g.S.Source.left c.take.new.self) c.loop-held.invariant.running (omega (arith, c.if-taken-eq-MAX_INPUT_SIZE.true)) c.in-Got.ensures.grows c.in-Got.ensures.bytes some
 
 pub returns-in-Some-clause-stopped : goal.returns-in-Some-clause-stopped
 returns-in-Some-clause-stopped g c =
-    let told : Told = record { taken_before = g.S.Source.taken c.args.input.now; taken_after = g.S.Source.taken c.loop-held.input; left_before = g.S.Source.left c.args.input.now; left_after = g.S.Source.left c.loop-held.input; before = g.K.Sink.placed c.args.output.now; after = g.K.Sink.placed c.loop-held.output } in
+    let told : Told = told_by g.S.Source.taken g.S.Source.left g.K.Sink.placed c.args.input.now c.loop-held.input c.args.output.now c.loop-held.output in
     let piece = c.split_at.result.0.now in
     let taken : g.S.Source.taken c.take.new.self ≡ option_map (λ given. given ++ piece) (g.S.Source.taken c.loop-held.input) = rw c.split_at.ensures.front c.in-Got.ensures.grows in
     let left : g.S.Source.left c.loop-held.input ≡ option_map (λ rest. piece ++ rest) (g.S.Source.left c.take.new.self) = rw c.split_at.ensures.front c.in-Got.ensures.bytes in
@@ -44,7 +44,7 @@ returns-in-Some-clause-stopped g c =
 
 pub loop-held-preserved : goal.loop-held-preserved
 loop-held-preserved g c =
-    let told : Told = record { taken_before = g.S.Source.taken c.args.input.now; taken_after = g.S.Source.taken c.loop-held.input; left_before = g.S.Source.left c.args.input.now; left_after = g.S.Source.left c.loop-held.input; before = g.K.Sink.placed c.args.output.now; after = g.K.Sink.placed c.loop-held.output } in
+    let told : Told = told_by g.S.Source.taken g.S.Source.left g.K.Sink.placed c.args.input.now c.loop-held.input c.args.output.now c.loop-held.output in
     let piece = c.split_at.result.0.now in
     let taken : g.S.Source.taken c.take.new.self ≡ option_map (λ given. given ++ piece) (g.S.Source.taken c.loop-held.input) = rw c.split_at.ensures.front c.in-Got.ensures.grows in
     let left : g.S.Source.left c.loop-held.input ≡ option_map (λ rest. piece ++ rest) (g.S.Source.left c.take.new.self) = rw c.split_at.ensures.front c.in-Got.ensures.bytes in
