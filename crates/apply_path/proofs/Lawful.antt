@@ -19,7 +19,7 @@ use Rattle.table_model.specs.Event.{Event}
 use Rattle.table_model.specs.Legal.{is_well_formed_ask, is_well_formed, IsLawful}
 use Rattle.rib_core.specs.Built.{as_served}
 use Rattle.apply_path.specs.History.{event, answered, with_events, up_to_end, status_code_of, run_commands}
-use Rattle.apply_path.specs.Responses.{config_of, fault_of, commands_unless, commands_at, run_message, history_from, history, begun}
+use Rattle.apply_path.specs.Responses.{config_of, fault_of, commands_unless, commands_at, run_message, history_from, history, history_with_leave, begun}
 use Rattle.apply_path.specs.Laws.{readable, commands_from, events_of}
 
 -- ---- commands whose entries have payloads of their keys' kinds
@@ -91,6 +91,9 @@ module _ (law : (instances : List (List ℕ)) (operation : RawOperation) (entry 
 
   pub lawful_history : (s : Setting) (messages : List (List ℕ)) → IsLawful (config_of s) (history s messages)
   lawful_history s messages = lawful_from s (begun s) 1 messages (refl, tt, refl)
+
+  pub lawful_left : (s : Setting) (messages : List (List ℕ)) → IsLawful (config_of s) (history_with_leave s messages)
+  lawful_left s messages = (refl, lawful_history s messages, refl)
 
   pub lawful_answered : (s : Setting) (messages : List (List ℕ)) → IsLawful (config_of s) (with_events (begun s) (up_to_end (events_of s messages)))
   lawful_answered s messages = lawful_row (config_of s) (begun s) (commands_from s 1 (readable s messages)) (refl, tt, refl) (formed_from s 1 (readable s messages))

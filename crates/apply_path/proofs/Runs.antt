@@ -55,7 +55,7 @@ not_closing (inr (inr e)) = absurd cc
 nothing_written : (before : Option (List ℕ)) (bytes : List ℕ) → WrotePart before bytes before
 nothing_written before bytes = record { written = []; others = bytes; parts = refl; wrote = nothing_taken before }
 
-pub lacks_memory : (f : Behaviour) (taken left before : Option (List ℕ)) → Runs f anything anything 6 (record { taken_before = taken; taken_after = taken; left_before = left; left_after = left; before = before; after = before })
+pub lacks_memory : (f : Behaviour) (taken left before : Option (List ℕ)) → Runs f anything anything 6 (record { source = record { taken_before = taken; taken_after = taken; left_before = left; left_after = left }; sink = record { before = before; after = before } })
 lacks_memory f taken left before = record {
   taken = [];
   taken_is = nothing_taken taken;
@@ -68,7 +68,7 @@ lacks_memory f taken left before = record {
   part = nothing_written before (output_of f []);
 }
 
-pub lacks_memory_over : (f : Behaviour) (input : List ℕ) (taken left before : Option (List ℕ)) → left ≡ Some input → RunsOver f anything anything 6 input (record { taken_before = taken; taken_after = taken; left_before = left; left_after = left; before = before; after = before })
+pub lacks_memory_over : (f : Behaviour) (input : List ℕ) (taken left before : Option (List ℕ)) → left ≡ Some input → RunsOver f anything anything 6 input (record { source = record { taken_before = taken; taken_after = taken; left_before = left; left_after = left }; sink = record { before = before; after = before } })
 lacks_memory_over f input taken left before told = record {
   taken = [];
   rest = input;

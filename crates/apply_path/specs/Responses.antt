@@ -10,14 +10,17 @@ use Rattle.message_run.specs.Behaviour.{Behaviour, Response, Reply, Field}
 use Rattle.call_answers.specs.Orders.{commands_of, orders_of}
 use Rattle.call_answers.specs.declared.orders.Setting.{Setting}
 use Rattle.table_model.specs.declared.command.Command.{Command}
-use Rattle.table_model.specs.declared.command.Command.TheVariants.{Begin}
+use Rattle.table_model.specs.declared.command.Command.TheVariants.{Begin, Leave}
 use Rattle.table_model.specs.declared.command.Config.{Config}
 use Rattle.table_model.specs.Event.{Event}
 use Rattle.apply_path.specs.History.{event, CommandRun, run_commands}
 
 -- the table's set-up: the configured network instances, one worker, and a million entries
+abbrev pub config_with : ℕ → Config
+config_with instances = record { instances = instances; workers = 1; limit = 1000000 }
+
 abbrev pub config_of : Setting → Config
-config_of s = record { instances = length s.instances; workers = 1; limit = 1000000 }
+config_of s = config_with (length s.instances)
 
 abbrev pub fault_of : Setting → List ℕ → Option MessageFault
 fault_of s message = first_fault s.numbering ModifyRequest message
@@ -46,6 +49,10 @@ history_from s past place (m ∷ ms) = history_from s (run_message s past place 
 -- of an input's messages: the session begins, and they are done
 abbrev pub history : Setting → List (List ℕ) → List Event
 history s messages = history_from s (begun s) 1 messages
+
+-- and then the session leaves
+abbrev pub history_with_leave : Setting → List (List ℕ) → List Event
+history_with_leave s messages = event (config_of s) (history s messages) (Leave 0) ∷ history s messages
 
 -- What a message comes to, by its first fault and what its commands come to. No first fault is NoMemory, so nothing comes to the
 -- last arm.

@@ -1,13 +1,15 @@
 -- What a session of `apply` keeps, and what it does with commands in a row.
-use Rattle.std.specs.Prelude.{◌≡◌, ◌≤◌, ◌^◌, ℕ, ℤ, Bool, false, List, [], ◌∷◌, ◌++◌, length, Some, None}
+use Rattle.std.specs.Prelude.{◌≡◌, ◌≤◌, ◌^◌, ℕ, ℤ, Bool, false, List, [], ◌∷◌, ◌++◌, length, Option, Some, None}
+use Rattle.std.specs.Option.{option_map_or}
 use Rattle.schema_numbers.specs.Numbers.{Numbers}
 use Rattle.proto_schema.specs.declared.legal.MessageFault.{MessageFault}
 use Rattle.proto_schema.specs.declared.legal.MessageFault.TheVariants.{Wire, Utf8}
 use Rattle.proto_schema.specs.declared.legal.MessageFault.TheVariants as fault
 use Rattle.call_answers.specs.declared.orders.Setting.{Setting}
 use Rattle.table_model.specs.declared.command.Command.{Command}
-use Rattle.table_model.specs.declared.command.Command.TheVariants.{Begin, Leave}
+use Rattle.table_model.specs.declared.command.Command.TheVariants.{Begin, SetParams, Announce}
 use Rattle.table_model.specs.declared.command.Config.{Config}
+use Rattle.table_model.specs.declared.params.AskedParams.{AskedParams}
 use Rattle.table_model.specs.declared.reply.Reply.{Reply}
 use Rattle.table_model.specs.Event.{Event, events, is_no_memory}
 use Rattle.rib_core.specs.Core.{Core}
@@ -16,7 +18,7 @@ use Rattle.rib_core.specs.Stands.{StandsFor, Acts}
 use Rattle.message_run.specs.declared.message_handler.Handled.{Handled}
 use Rattle.message_run.specs.declared.message_handler.Handled.TheVariants.{Continue, Ends, Unreadable, NoMemory}
 use Rattle.apply_path.specs.History.{event, status_code_by, response_item, CommandRun, run_commands}
-use Rattle.apply_path.specs.Responses.{config_of, history}
+use Rattle.apply_path.specs.Responses.{config_with, config_of, history, history_with_leave}
 
 -- The table is the one with this history, in which nothing was refused for want of memory.
 pub record CoreAt (config : Config) (core : Core) (past : List Event) : Type 0 where
@@ -32,7 +34,7 @@ pub record SessionAt (s : Setting) (core : Core) (count : ℕ) (done : List (Lis
 
 -- it has done them, and its session has left
 abbrev pub HasLeft : Setting → Core → List (List ℕ) → Type 0
-HasLeft s core done = CoreAt (config_of s) core (event (config_of s) (history s done) (Leave 0) ∷ history s done)
+HasLeft s core done = CoreAt (config_of s) core (history_with_leave s done)
 
 -- ---- commands in a row, after a history and before whatever others
 
@@ -49,7 +51,8 @@ pub record RanOn (n : Numbers) (config : Config) (core : Core) (past : List Even
   pub appended : after ≡ before ++ written
 
 -- a reply to one of them ended the stream
-pub record Ended (n : Numbers) (config : Config) (core : Core) (past : List Event) (cs : List Command) (code : ℕ) (before after : List ℕ) : Type 0 where
+pub record Ended (n : Numbers) (config : Config) (core : Core) (past : List Event) (cs : List Command) (code : ℕ)
+    (before after : List ℕ) : Type 0 where
   pub now : List Event
   pub written : List ℕ
   pub stood : CoreAt config core now
@@ -71,14 +74,27 @@ RunResult n config core past cs NoMemory before after = OutOfMemory n config pas
 
 -- after any history that the table had
 abbrev pub RunsCommands : Numbers → Core → Core → List Command → Handled → List ℕ → List ℕ → Type 0
-RunsCommands n old new cs answer before after = (config : Config) (past : List Event) → CoreAt config old past → RunResult n config new past cs answer before after
+RunsCommands n old new cs answer before after =
+    (config : Config) (past : List Event) → CoreAt config old past → RunResult n config new past cs answer before after
+
+-- the commands of a request's parameters, and of its election id
+abbrev pub params_commands : Option AskedParams → List Command
+params_commands params = option_map_or (λ asked. SetParams 0 asked ∷ []) params []
+
+abbrev pub election_commands : Option ℕ → List Command
+election_commands election = option_map_or (λ id. Announce 0 id ∷ []) election []
+
+abbrev pub header_commands : Option AskedParams → Option ℕ → List Command
+header_commands params election = params_commands params ++ election_commands election
 
 -- ---- what a reply comes to
 
 -- The answer that is owed was appended, and the reply ends the stream or not. Without memory nothing was appended.
 abbrev pub AnswersReply : Numbers → Bool → ℕ → ℤ → Reply → Handled → List ℕ → List ℕ → Type 0
-AnswersReply n operate id now given Continue before after = (is_no_memory given ≡ false) × (status_code_by operate given ≡ None) × (after ≡ before ++ response_item n id now given)
-AnswersReply n operate id now given (Ends code) before after = (is_no_memory given ≡ false) × (status_code_by operate given ≡ Some code) × (after ≡ before ++ response_item n id now given)
+AnswersReply n operate id now given Continue before after =
+    (is_no_memory given ≡ false) × (status_code_by operate given ≡ None) × (after ≡ before ++ response_item n id now given)
+AnswersReply n operate id now given (Ends code) before after =
+    (is_no_memory given ≡ false) × (status_code_by operate given ≡ Some code) × (after ≡ before ++ response_item n id now given)
 AnswersReply n operate id now given (Unreadable place) before after = ⊥
 AnswersReply n operate id now given NoMemory before after = after ≡ before
 
@@ -96,5 +112,5 @@ HandlesFault (Utf8 place) answer = answer ≡ Unreadable place
 HandlesFault fault.NoMemory answer = answer ≡ NoMemory
 
 pub record Begun (instances : ℕ) (core : Core) : Type 0 where
-  pub stood : CoreAt (record { instances = instances; workers = 1; limit = 1000000 }) core (event (record { instances = instances; workers = 1; limit = 1000000 }) [] Begin ∷ [])
+  pub stood : CoreAt (config_with instances) core (event (config_with instances) [] Begin ∷ [])
   pub few : core.count ≤ 2 ^ 61

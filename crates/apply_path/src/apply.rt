@@ -22,9 +22,10 @@ pub fn apply_stream<S: Source, K: Sink>(
     output: &mut K,
 ) -> u8
     // What is written is a function of the bytes that were taken: the answers of the one-thread server.
-    ensures applies { Applies setting.now result (told (S.taken input.old) (S.taken input.new) (S.left input.old) (S.left input.new) (K.placed output.old) (K.placed output.new)) }
+    ensures applies { Applies setting.now result (told S.taken S.left K.placed input.old input.new output.old output.new) }
     // Where the source tells its input, it is a function of the input.
-    ensures over { (all : List ℕ) → S.left input.old ≡ Some all → AppliesOver setting.now result all (told (S.taken input.old) (S.taken input.new) (S.left input.old) (S.left input.new) (K.placed output.old) (K.placed output.new)) }
+    ensures over { (all : List ℕ) → S.left input.old ≡ Some all →
+        AppliesOver setting.now result all (told S.taken S.left K.placed input.old input.new output.old output.new) }
     ensures status { IsStatus result }
     ensures read { HasCause (S.faults input.old) (S.faults input.new) (result ≡ 4) }
     // No failure is hidden: a status but 4 leaves the input's faults, and one but 5 the output's.

@@ -4,7 +4,7 @@ ghost use Rattle.call_answers.specs.declared.orders.Setting.{Setting};
 ghost use Rattle.table_model.specs.Legal.{IsLawful};
 ghost use Rattle.message_run.specs.Behaviour.{trace_from};
 ghost use Rattle.apply_path.specs.History.{answer_bytes, with_events, up_to_end, first_end};
-ghost use Rattle.apply_path.specs.Responses.{apply_behaviour, config_of, begun, history};
+ghost use Rattle.apply_path.specs.Responses.{apply_behaviour, config_of, begun, history, history_with_leave};
 ghost use Rattle.apply_path.specs.Laws.{events_of, readable, first_unreadable, ending_by};
 
 use aft_entries::checked_entries_fit;
@@ -24,10 +24,12 @@ pub fn answers_match_the_server()
         (trace_from (apply_behaviour s) [] messages).done ≡ readable s messages }
 {}
 
-/// The history of messages is lawful, and so is that of the events whose answers are written: each reply in it is the one-thread
-/// server's, and each entry has a payload of its key's kind. So each law of lawful histories holds of them.
+/// The history of messages is lawful, also with the session's Leave behind it, and so is that of the events whose answers are
+/// written: each reply in it is the one-thread server's, and each entry has a payload of its key's kind. So each law of lawful
+/// histories holds of them.
 pub fn histories_are_lawful()
     ensures history { (s : Setting) (messages : List (List ℕ)) → IsLawful (config_of s) (history s messages) }
+    ensures left { (s : Setting) (messages : List (List ℕ)) → IsLawful (config_of s) (history_with_leave s messages) }
     ensures answered { (s : Setting) (messages : List (List ℕ)) →
         IsLawful (config_of s) (with_events (begun s) (up_to_end (events_of s messages))) }
 {

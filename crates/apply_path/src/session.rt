@@ -1,130 +1,118 @@
 ghost use Rattle.std.specs.Prelude.{◌≡◌, ◌+◌, ◌<◌, ◌≤◌, ◌^◌, ◌++◌, ◌∷◌, [], ℕ, List, length, map, pos, IfOk};
-ghost use Rattle.std.specs.Option.{option_map_or};
-ghost use Rattle.table_model.specs.Event.{Event, is_no_memory};
+ghost use Rattle.table_model.specs.Event.{Event};
 ghost use Rattle.call_answers.specs.Orders.{commands_of, operation_at, orders_of};
 ghost use Rattle.apply_path.specs.Responses.{config_of};
-ghost use Rattle.apply_path.specs.SessionAt.{CoreAt, RunsCommands, HandlesFault, Begun};
+ghost use Rattle.apply_path.specs.SessionAt.{CoreAt, RunsCommands, HandlesFault, Begun, params_commands, election_commands, header_commands};
 
-use crate::step::{answer_operation, do_command, operate};
+use crate::step::{
+    AnswerWriter, answer_operation, discard_reply, do_command, is_out_of_memory, operate,
+};
 use call_answers::{Setting, operations_in, read_header, read_operation};
 use message_run::{Handled, MessageHandler};
 use proto_schema::{MessageFault, MessageKind, first_fault};
 use rib_core::RibCore;
 use schema_numbers::Numbering;
 use std::alloc::{AllocError, Global};
-use table_model::{AskedParams, Command, Config, Operation, Reply};
+use std::mem::swap;
+use table_model::{AskedParams, Command, Config, Operation};
 
 // Sets the parameters that are asked for.
 fn do_params(
-    alloc: Global,
     n: &Numbering,
     core: &mut RibCore,
     asked: Option<AskedParams>,
-    message: &mut Vec<u8>,
-    out: &mut Vec<u8>,
+    writer: &mut AnswerWriter,
 ) -> Handled
     requires stood { (config : Config) × (past : List Event) × CoreAt config core.old past }
     requires few { core.old.count ≤ 2 ^ 61 }
-    ensures { RunsCommands n.now core.old core.new (option_map_or (λ asked. Command.SetParams 0 asked ∷ []) asked []) result out.old.items out.new.items }
+    ensures { RunsCommands n.now core.old core.new (params_commands asked) result writer.old.out.items writer.new.out.items }
 {
     match asked {
         None => Handled::Continue,
         Some(asked) => {
             let command = Command::SetParams(0, asked);
-            do_command(alloc, n, core, command, false, 0, 0, message, out)
+            do_command(n, core, command, writer)
         }
     }
 }
 
 // Announces the election id.
 fn do_election(
-    alloc: Global,
     n: &Numbering,
     core: &mut RibCore,
     election: Option<u128>,
-    message: &mut Vec<u8>,
-    out: &mut Vec<u8>,
+    writer: &mut AnswerWriter,
 ) -> Handled
     requires stood { (config : Config) × (past : List Event) × CoreAt config core.old past }
     requires few { core.old.count ≤ 2 ^ 61 }
-    ensures { RunsCommands n.now core.old core.new (option_map_or (λ id. Command.Announce 0 id ∷ []) election []) result out.old.items out.new.items }
+    ensures { RunsCommands n.now core.old core.new (election_commands election) result writer.old.out.items writer.new.out.items }
 {
     match election {
         None => Handled::Continue,
         Some(id) => {
             let command = Command::Announce(0, id);
-            do_command(alloc, n, core, command, false, 0, 0, message, out)
+            do_command(n, core, command, writer)
         }
     }
 }
 
 #[inline(always)]
 fn do_operation(
-    alloc: Global,
     n: &Numbering,
     core: &mut RibCore,
     operation: Operation,
     number: u64,
-    message: &mut Vec<u8>,
-    out: &mut Vec<u8>,
+    writer: &mut AnswerWriter,
 ) -> Handled
     requires number { number < 2 ^ 62 }
     requires stood { (config : Config) × (past : List Event) × CoreAt config core.old past }
-    ensures { RunsCommands n.now core.old core.new (Command.Operate 0 operation (pos number) ∷ []) result out.old.items out.new.items }
+    ensures { RunsCommands n.now core.old core.new (Command.Operate 0 operation (pos number) ∷ []) result writer.old.out.items writer.new.out.items }
 {
     let id = operation.id;
     let now = number as i64;
     let end = operate(core, operation, now);
-    answer_operation(alloc, n, id, now, end, message, out)
+    answer_operation(n, id, now, end, writer)
 }
 
 // Reads an operation, and does it.
 #[inline(always)]
 fn do_piece(
-    alloc: Global,
     setting: &Setting,
     core: &mut RibCore,
     piece: &[u8],
     number: u64,
-    message: &mut Vec<u8>,
-    out: &mut Vec<u8>,
+    writer: &mut AnswerWriter,
 ) -> Handled
     requires number { number < 2 ^ 62 }
     requires stood { (config : Config) × (past : List Event) × CoreAt config core.old past }
-    ensures { RunsCommands setting.now.numbering core.old core.new (Command.Operate 0 (operation_at setting.now piece.now) (pos number) ∷ []) result out.old.items out.new.items }
+    ensures { RunsCommands setting.now.numbering core.old core.new
+        (Command.Operate 0 (operation_at setting.now piece.now) (pos number) ∷ [])
+        result writer.old.out.items writer.new.out.items }
 {
-    match read_operation(alloc, setting, piece) {
+    match read_operation(writer.alloc, setting, piece) {
         Err(_) => Handled::NoMemory,
-        Ok(operation) => do_operation(
-            alloc,
-            &setting.numbering,
-            core,
-            operation,
-            number,
-            message,
-            out,
-        ),
+        Ok(operation) => do_operation(&setting.numbering, core, operation, number, writer),
     }
 }
 
 // Does the operations of a request. Each is done before the next is read, so that no list of them takes memory.
 fn do_operations(
-    alloc: Global,
     setting: &Setting,
     core: &mut RibCore,
     request: &[u8],
     number: u64,
-    message: &mut Vec<u8>,
-    out: &mut Vec<u8>,
+    writer: &mut AnswerWriter,
 ) -> Handled
     requires number { number < 2 ^ 62 }
     requires stood { (config : Config) × (past : List Event) × CoreAt config core.old past }
     requires few { core.old.count ≤ 2 ^ 61 }
-    ensures { RunsCommands setting.now.numbering core.old core.new (map (λ operation. Command.Operate 0 operation (pos number)) (orders_of setting.now request.now).operations) result out.old.items out.new.items }
+    ensures { RunsCommands setting.now.numbering core.old core.new
+        (map (λ operation. Command.Operate 0 operation (pos number)) (orders_of setting.now request.now).operations)
+        result writer.old.out.items writer.new.out.items }
 {
     let mut pieces = operations_in(setting, request);
     while let Some(piece) = pieces.next() {
-        match do_piece(alloc, setting, core, piece, number, message, out) {
+        match do_piece(setting, core, piece, number, writer) {
             Handled::Continue => {}
             Handled::Ends(code) => return Handled::Ends(code),
             Handled::Unreadable(place) => return Handled::Unreadable(place),
@@ -136,20 +124,18 @@ fn do_operations(
 
 // Sets the parameters, and announces the election id.
 fn do_params_and_election(
-    alloc: Global,
     n: &Numbering,
     core: &mut RibCore,
     params: Option<AskedParams>,
     election: Option<u128>,
-    message: &mut Vec<u8>,
-    out: &mut Vec<u8>,
+    writer: &mut AnswerWriter,
 ) -> Handled
     requires stood { (config : Config) × (past : List Event) × CoreAt config core.old past }
     requires few { core.old.count ≤ 2 ^ 61 }
-    ensures { RunsCommands n.now core.old core.new (option_map_or (λ asked. Command.SetParams 0 asked ∷ []) params [] ++ option_map_or (λ id. Command.Announce 0 id ∷ []) election []) result out.old.items out.new.items }
+    ensures { RunsCommands n.now core.old core.new (header_commands params election) result writer.old.out.items writer.new.out.items }
 {
-    match do_params(alloc, n, core, params, message, out) {
-        Handled::Continue => do_election(alloc, n, core, election, message, out),
+    match do_params(n, core, params, writer) {
+        Handled::Continue => do_election(n, core, election, writer),
         Handled::Ends(code) => Handled::Ends(code),
         Handled::Unreadable(place) => Handled::Unreadable(place),
         Handled::NoMemory => Handled::NoMemory,
@@ -158,48 +144,46 @@ fn do_params_and_election(
 
 // The same of a request.
 fn do_header(
-    alloc: Global,
     setting: &Setting,
     core: &mut RibCore,
     request: &[u8],
-    message: &mut Vec<u8>,
-    out: &mut Vec<u8>,
+    writer: &mut AnswerWriter,
 ) -> Handled
     requires stood { (config : Config) × (past : List Event) × CoreAt config core.old past }
     requires few { core.old.count ≤ 2 ^ 61 }
-    ensures { RunsCommands setting.now.numbering core.old core.new (option_map_or (λ asked. Command.SetParams 0 asked ∷ []) (orders_of setting.now request.now).params [] ++ option_map_or (λ id. Command.Announce 0 id ∷ []) (orders_of setting.now request.now).election []) result out.old.items out.new.items }
+    ensures { RunsCommands setting.now.numbering core.old core.new
+        (header_commands (orders_of setting.now request.now).params (orders_of setting.now request.now).election)
+        result writer.old.out.items writer.new.out.items }
 {
-    match read_header(alloc, setting, request) {
+    match read_header(writer.alloc, setting, request) {
         Err(_) => Handled::NoMemory,
         Ok((params, election)) => do_params_and_election(
-            alloc,
             &setting.numbering,
             core,
             params,
             election,
-            message,
-            out,
+            writer,
         ),
     }
 }
 
 // Does what a request orders, that can be read.
 fn do_request(
-    alloc: Global,
     setting: &Setting,
     core: &mut RibCore,
     request: &[u8],
     number: u64,
-    message: &mut Vec<u8>,
-    out: &mut Vec<u8>,
+    writer: &mut AnswerWriter,
 ) -> Handled
     requires number { number < 2 ^ 62 }
     requires stood { (config : Config) × (past : List Event) × CoreAt config core.old past }
     requires few { core.old.count ≤ 2 ^ 61 }
-    ensures { RunsCommands setting.now.numbering core.old core.new (commands_of 0 (pos number) (orders_of setting.now request.now)) result out.old.items out.new.items }
+    ensures { RunsCommands setting.now.numbering core.old core.new
+        (commands_of 0 (pos number) (orders_of setting.now request.now))
+        result writer.old.out.items writer.new.out.items }
 {
-    match do_header(alloc, setting, core, request, message, out) {
-        Handled::Continue => do_operations(alloc, setting, core, request, number, message, out),
+    match do_header(setting, core, request, writer) {
+        Handled::Continue => do_operations(setting, core, request, number, writer),
         Handled::Ends(code) => Handled::Ends(code),
         Handled::Unreadable(place) => Handled::Unreadable(place),
         Handled::NoMemory => Handled::NoMemory,
@@ -228,29 +212,22 @@ fn begun(alloc: Global, instances: u16) -> Result<RibCore, AllocError>
         limit: 1_000_000,
     };
     let mut core = RibCore::new(alloc, config)?;
-    if is_out_of_memory(core.act(Command::Begin)) {
+    let reply = core.act(Command::Begin);
+    let failed = is_out_of_memory(&reply);
+    discard_reply(reply);
+    if failed {
         return Err(AllocError);
     }
     Ok(core)
 }
 
-fn is_out_of_memory(reply: Reply) -> bool
-    ensures { result ≡ is_no_memory reply }
-{
-    match reply {
-        Reply::NoMemory => true,
-        _ => false,
-    }
-}
-
 /// The session of one input: its table, how many messages there were, and room for an answer.
 #[derive(Drop)]
 pub struct Session<'a> {
-    alloc: Global,
     setting: &'a Setting,
     core: RibCore,
     count: u64,
-    message: Vec<u8>,
+    writer: AnswerWriter,
 }
 
 impl<'a> Session<'a> {
@@ -264,11 +241,14 @@ impl<'a> Session<'a> {
     {
         let core = begun(alloc, setting.instances.count())?;
         Ok(Session {
-            alloc,
             setting,
             core,
             count: 0,
-            message: Vec::new(alloc),
+            writer: AnswerWriter {
+                alloc,
+                message: Vec::new(alloc),
+                out: Vec::new(alloc),
+            },
         })
     }
 }
@@ -289,21 +269,23 @@ impl<'a> MessageHandler for Session<'a> {
             Some(fault) => unreadable(fault),
             None => {
                 self.count += 1;
-                do_request(
-                    self.alloc,
+                // The answers go behind those that `out` has.
+                swap(&mut self.writer.out, out);
+                let handled = do_request(
                     setting,
                     &mut self.core,
                     message,
                     self.count,
-                    &mut self.message,
-                    out,
-                )
+                    &mut self.writer,
+                );
+                swap(&mut self.writer.out, out);
+                handled
             }
         }
     }
 
     fn leave(&mut self) {
         let reply = self.core.act(Command::Leave(0));
-        let _ = is_out_of_memory(reply);
+        discard_reply(reply);
     }
 }

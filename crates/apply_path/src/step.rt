@@ -1,5 +1,4 @@
-ghost use Rattle.std.specs.Prelude.{◌≡◌, ◌<◌, ◌^◌, ◌++◌, ◌∷◌, [], List, length, true, IfOk, OnOk, OnErr, IsTrue};
-ghost use Rattle.grpc_framing.specs.Framing.{item};
+ghost use Rattle.std.specs.Prelude.{◌≡◌, ◌++◌, ◌∷◌, [], List, pos, true, false, IfOk, OnOk, OnErr, IsTrue};
 ghost use Rattle.rib_core.specs.Built.{is_built};
 ghost use Rattle.rib_core.specs.Ends.{end_reply};
 ghost use Rattle.table_model.specs.Reply.{operate_reply};
@@ -10,7 +9,7 @@ ghost use Rattle.apply_path.specs.SessionAt.{CoreAt, AnswersReply, Replied, Runs
 
 use aft_entries::Reason;
 use call_answers::{append_answer, append_operation_result, end_of};
-use message_run::Handled;
+use message_run::{Handled, append_item};
 use rib_core::{OperateEnd, RibCore};
 use schema_numbers::Numbering;
 use std::alloc::{AllocError, Global};
@@ -19,41 +18,29 @@ use table_model::{Command, Operation, Reply};
 /// How many events a table of `apply` has before it takes no more: an input's bytes give far fewer.
 const MAX_EVENTS: u64 = 2_305_843_009_213_693_952;
 
-// Appends a message as it stands in the output.
-fn append_item(out: &mut Vec<u8>, message: &[u8]) -> Result<(), AllocError>
-    requires { length message.now < 2 ^ 32 }
-    ensures ok { OnOk result (out.new.items ≡ out.old.items ++ item message.now) }
-    ensures err { OnErr result (out.new.items ≡ out.old.items) }
-{
-    let count = message.len() as u32;
-    let before = out.len();
-    if out.push(0).is_err()
-        || out.extend_from_slice(&count.to_be_bytes()).is_err()
-        || out.extend_from_slice(message).is_err()
-    {
-        out.truncate(before);
-        return Err(AllocError);
-    }
-    Ok(())
+/// Where answers are written: the output so far, and a buffer in which each message is spelled first.
+#[derive(Drop)]
+pub struct AnswerWriter {
+    pub alloc: Global,
+    pub message: Vec<u8>,
+    pub out: Vec<u8>,
 }
 
 // Appends the answer that is owed for a reply, spelled in `message` first.
 #[tactic(auto, unfolding(crate::specs::History::response_item))]
 fn append_response_item(
-    alloc: Global,
     n: &Numbering,
     id: u64,
     now: i64,
     reply: &Reply,
-    message: &mut Vec<u8>,
-    out: &mut Vec<u8>,
+    writer: &mut AnswerWriter,
 ) -> Result<(), AllocError>
-    ensures ok { OnOk result (out.new.items ≡ out.old.items ++ response_item n.now id now reply.now) }
-    ensures err { OnErr result (out.new.items ≡ out.old.items) }
+    ensures ok { OnOk result (writer.new.out.items ≡ writer.old.out.items ++ response_item n.now id now reply.now) }
+    ensures err { OnErr result (writer.new.out.items ≡ writer.old.out.items) }
 {
-    message.clear();
-    if append_answer(alloc, n, id, now, reply, message)? {
-        append_item(out, message)
+    writer.message.clear();
+    if append_answer(writer.alloc, n, id, now, reply, &mut writer.message)? {
+        append_item(0, &writer.message, &mut writer.out)
     } else {
         Ok(())
     }
@@ -69,7 +56,8 @@ fn status_code_by(operate: bool, reply: &Reply) -> Result<Option<u8>, AllocError
     }
 }
 
-fn is_out_of_memory(reply: &Reply) -> bool
+/// Whether the reply tells that there was no memory.
+pub fn is_out_of_memory(reply: &Reply) -> bool
     ensures { result ≡ is_no_memory reply.now }
 {
     match reply {
@@ -79,24 +67,22 @@ fn is_out_of_memory(reply: &Reply) -> bool
 }
 
 /// Appends the answer to a reply, and tells whether it ends the stream.
-pub fn tell(
-    alloc: Global,
+pub fn answer_reply(
     n: &Numbering,
     operate: bool,
     id: u64,
     now: i64,
     reply: &Reply,
-    message: &mut Vec<u8>,
-    out: &mut Vec<u8>,
+    writer: &mut AnswerWriter,
 ) -> Handled
-    ensures { AnswersReply n.now operate id now reply.now result out.old.items out.new.items }
+    ensures { AnswersReply n.now operate id now reply.now result writer.old.out.items writer.new.out.items }
 {
     if is_out_of_memory(reply) {
         return Handled::NoMemory;
     }
     match status_code_by(operate, reply) {
         Err(_) => Handled::NoMemory,
-        Ok(code) => match append_response_item(alloc, n, id, now, reply, message, out) {
+        Ok(code) => match append_response_item(n, id, now, reply, writer) {
             Err(_) => Handled::NoMemory,
             Ok(()) => match code {
                 None => Handled::Continue,
@@ -112,15 +98,14 @@ fn append_operation_item(
     id: u64,
     now: i64,
     failed: Option<Reason>,
-    message: &mut Vec<u8>,
-    out: &mut Vec<u8>,
+    writer: &mut AnswerWriter,
 ) -> Result<(), AllocError>
-    ensures ok { OnOk result (out.new.items ≡ out.old.items ++ response_item n.now id now (operate_reply failed)) }
-    ensures err { OnErr result (out.new.items ≡ out.old.items) }
+    ensures ok { OnOk result (writer.new.out.items ≡ writer.old.out.items ++ response_item n.now id now (operate_reply failed)) }
+    ensures err { OnErr result (writer.new.out.items ≡ writer.old.out.items) }
 {
-    message.clear();
-    append_operation_result(n, id, now, failed, message)?;
-    append_item(out, message)
+    writer.message.clear();
+    append_operation_result(n, id, now, failed, &mut writer.message)?;
+    append_item(0, &writer.message, &mut writer.out)
 }
 
 // Appends the result of an operation that failed for this reason, if any. It ends no stream.
@@ -130,12 +115,11 @@ fn answer_result(
     id: u64,
     now: i64,
     failed: Option<Reason>,
-    message: &mut Vec<u8>,
-    out: &mut Vec<u8>,
+    writer: &mut AnswerWriter,
 ) -> Handled
-    ensures { AnswersReply n.now true id now (operate_reply failed) result out.old.items out.new.items }
+    ensures { AnswersReply n.now true id now (operate_reply failed) result writer.old.out.items writer.new.out.items }
 {
-    match append_operation_item(n, id, now, failed, message, out) {
+    match append_operation_item(n, id, now, failed, writer) {
         Ok(()) => Handled::Continue,
         Err(_) => Handled::NoMemory,
     }
@@ -144,51 +128,35 @@ fn answer_result(
 /// Appends the answer to an operation that ended so, and tells whether it ends the stream.
 #[inline(always)]
 pub fn answer_operation(
-    alloc: Global,
     n: &Numbering,
     id: u64,
     now: i64,
     end: OperateEnd,
-    message: &mut Vec<u8>,
-    out: &mut Vec<u8>,
+    writer: &mut AnswerWriter,
 ) -> Handled
-    ensures { AnswersReply n.now true id now (end_reply end) result out.old.items out.new.items }
+    ensures { AnswersReply n.now true id now (end_reply end) result writer.old.out.items writer.new.out.items }
 {
     match end {
-        OperateEnd::Done => answer_result(n, id, now, None, message, out),
-        OperateEnd::Failed(reason) => answer_result(n, id, now, Some(reason), message, out),
-        OperateEnd::Gone => answer_gone(alloc, n, id, now, message, out),
-        OperateEnd::NoParams => answer_without_params(alloc, n, id, now, message, out),
+        OperateEnd::Done => answer_result(n, id, now, None, writer),
+        OperateEnd::Failed(reason) => answer_result(n, id, now, Some(reason), writer),
+        OperateEnd::Gone => answer_gone(n, id, now, writer),
+        OperateEnd::NoParams => answer_without_params(n, id, now, writer),
         OperateEnd::NoMemory => Handled::NoMemory,
     }
 }
 
 #[inline(never)]
-fn answer_gone(
-    alloc: Global,
-    n: &Numbering,
-    id: u64,
-    now: i64,
-    message: &mut Vec<u8>,
-    out: &mut Vec<u8>,
-) -> Handled
-    ensures { AnswersReply n.now true id now Reply.Gone result out.old.items out.new.items }
+fn answer_gone(n: &Numbering, id: u64, now: i64, writer: &mut AnswerWriter) -> Handled
+    ensures { AnswersReply n.now true id now Reply.Gone result writer.old.out.items writer.new.out.items }
 {
-    tell(alloc, n, true, id, now, &Reply::Gone, message, out)
+    answer_reply(n, true, id, now, &Reply::Gone, writer)
 }
 
 #[inline(never)]
-fn answer_without_params(
-    alloc: Global,
-    n: &Numbering,
-    id: u64,
-    now: i64,
-    message: &mut Vec<u8>,
-    out: &mut Vec<u8>,
-) -> Handled
-    ensures { AnswersReply n.now true id now Reply.NoParams result out.old.items out.new.items }
+fn answer_without_params(n: &Numbering, id: u64, now: i64, writer: &mut AnswerWriter) -> Handled
+    ensures { AnswersReply n.now true id now Reply.NoParams result writer.old.out.items writer.new.out.items }
 {
-    tell(alloc, n, true, id, now, &Reply::NoParams, message, out)
+    answer_reply(n, true, id, now, &Reply::NoParams, writer)
 }
 
 // Lets an operation go.
@@ -226,30 +194,25 @@ fn reply_to(core: &mut RibCore, command: Command) -> Reply
     core.act(command)
 }
 
-// Lets a reply go.
-fn discard_reply(reply: Reply) {
+/// Lets a reply go.
+pub fn discard_reply(reply: Reply) {
     let _ = reply;
 }
 
-/// Does a command, and appends its answer. An operation's answer bears its id and its moment.
+/// Does a command that is no operation, and appends its answer.
 pub fn do_command(
-    alloc: Global,
     n: &Numbering,
     core: &mut RibCore,
     command: Command,
-    operate: bool,
-    id: u64,
-    now: i64,
-    message: &mut Vec<u8>,
-    out: &mut Vec<u8>,
+    writer: &mut AnswerWriter,
 ) -> Handled
     requires built { IsTrue (is_built command) }
-    requires names { (operate ≡ is_operate command) × (id ≡ id_of command) × (now ≡ moment_of command) }
+    requires names { (false ≡ is_operate command) × (0 ≡ id_of command) × (pos 0 ≡ moment_of command) }
     requires stood { (config : Config) × (past : List Event) × CoreAt config core.old past }
-    ensures { RunsCommands n.now core.old core.new (command ∷ []) result out.old.items out.new.items }
+    ensures { RunsCommands n.now core.old core.new (command ∷ []) result writer.old.out.items writer.new.out.items }
 {
     let reply = reply_to(core, command);
-    let answered = tell(alloc, n, operate, id, now, &reply, message, out);
+    let answered = answer_reply(n, false, 0, 0, &reply, writer);
     discard_reply(reply);
     answered
 }

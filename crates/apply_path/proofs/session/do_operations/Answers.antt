@@ -15,7 +15,7 @@ abbrev coming : Setting → ℕ → List (List ℕ) → List Command
 coming s number pieces = commands number (map (operation_at s) pieces)
 
 pub loop-piece-init : goal.loop-piece-init
-loop-piece-init c = none_done c.args.setting.now.numbering c.args.core.now _ _ c.args.out.now.items c.requires.few (ap (commands c.args.number) c.operations_in-pieces.ensures)
+loop-piece-init c = none_done c.args.setting.now.numbering c.args.core.now _ _ c.args.writer.now.out.items c.requires.few (ap (commands c.args.number) c.operations_in-pieces.ensures)
 
 pub do_piece-requires-clause-stood : goal.do_piece-requires-clause-stood
 do_piece-requires-clause-stood c = still_stands c.args.setting.now.numbering c.args.core.now c.loop-piece.core _ _ _ _ c.loop-piece.invariant c.requires.stood

@@ -8,7 +8,7 @@ abbrev pub invariant-loop-piece : goal.invariant-loop-piece
 invariant-loop-piece l = DoneSoFar l.setting.numbering l.fn.core l.core
     (map (λ operation. Operate 0 operation (pos l.fn.number)) (orders_of l.setting l.request).operations)
     (map (λ operation. Operate 0 operation (pos l.fn.number)) (map (operation_at l.setting) l.pieces))
-    l.fn.out.items l.out.items
+    l.fn.writer.out.items l.writer.out.items
 
 abbrev pub decreases-loop-piece : goal.decreases-loop-piece
 decreases-loop-piece l = length l.pieces
