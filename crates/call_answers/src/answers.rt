@@ -12,7 +12,7 @@ use std::alloc::{AllocError, Global};
 use std::marker::Model;
 use table_model::{Batch, FibResult, Reply};
 
-/// A message as its bytes.
+/// A message as its bytes, without the flag and the length that stand before it in a stream.
 #[derive(Debug, Drop)]
 pub struct Message {
     bytes: Vec<u8>,

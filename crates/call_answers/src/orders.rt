@@ -22,7 +22,9 @@ use vec_list::VecList;
 /// What requests are read with: the numbers of the messages' fields, and the names of the network instances.
 #[derive(Drop)]
 pub struct Setting {
+    /// The numbers of the messages' fields and of their enumerators.
     pub numbering: Numbering,
+    /// The names of the network instances, by whose places the table knows them.
     pub instances: Instances,
 }
 
@@ -32,8 +34,11 @@ pub type Operations = VecList<Operation>;
 /// What a request orders: session parameters, an election id, and operations, in this order.
 #[derive(Drop)]
 pub struct Orders {
+    /// The session parameters that are asked for, each None where its number names none.
     pub params: Option<AskedParams>,
+    /// The election id that is announced.
     pub election: Option<u128>,
+    /// The operations.
     pub operations: Operations,
 }
 
@@ -157,7 +162,8 @@ fn scanned_operation(
 // The same of a next hop of which nothing is said but its index.
 #[inline(always)]
 fn index_only_operation(alloc: Global, instances: &Instances, bare: &IndexOnlyHop<'_>) -> Operation
-    ensures { result ≡ said.operation_of instances.now (index_only_hop_operation bare.now.id bare.now.instance.now bare.now.op bare.now.index bare.now.election) }
+    ensures { result ≡ said.operation_of instances.now
+        (index_only_hop_operation bare.now.id bare.now.instance.now bare.now.op bare.now.index bare.now.election) }
 {
     Operation {
         id: bare.id,
@@ -166,7 +172,8 @@ fn index_only_operation(alloc: Global, instances: &Instances, bare: &IndexOnlyHo
     }
 }
 
-/// What the bytes of an operation order, checked as far as it stands by itself. They are to have no fault.
+/// What the bytes of an operation order, checked as far as it stands by itself. They are to have no fault. The error is want of
+/// memory.
 #[inline(always)]
 pub fn read_operation(
     alloc: Global,
@@ -186,7 +193,7 @@ pub fn read_operation(
 }
 
 /// The session parameters that a ModifyRequest asks for, and its election id: what it orders before its operations. Its bytes are
-/// to have no fault.
+/// to have no fault. The error is want of memory.
 #[tactic(auto, unfolding(crate::specs::Orders::orders_of))]
 pub fn read_header(
     alloc: Global,
