@@ -4,3 +4,8 @@ pub mod Idle
 pub mod Spoken
 pub mod Shown
 pub mod Read
+pub mod Counted
+pub mod Pieces
+pub mod Begun
+pub mod Entire
+pub mod Drained

@@ -9,10 +9,10 @@ use Rattle.h2_conn.specs.ConnectionTrace.{style_of}
 use Rattle.grpc_stream.specs.Laws.{AreSuited, ClientsAsk, ServersAnswer}
 use Rattle.grpc_stream.specs.CallTrace.{CallTrace, CarriesResponseOn, CarriesRequestOn, IsSoundCallTrace, CarriesCallOn}
 
-read : WrittenBlocksAreRead → (t : CallTrace) (output : List ℕ) → IsSoundCallTrace t output → AreRead (sent t.connection_trace.frames) (map Ok t.connection_trace.written)
+pub read : WrittenBlocksAreRead → (t : CallTrace) (output : List ℕ) → IsSoundCallTrace t output → AreRead (sent t.connection_trace.frames) (map Ok t.connection_trace.written)
 read law t output h = law (style_of t.connection_trace.role) t.connection_trace.frames t.connection_trace.written h.connection_trace.last h.connection_trace.writable h.connection_trace.spelled
 
-spelled_as : (role : Role) (t : CallTrace) (output : List ℕ) → IsSoundCallTrace t output → AreSuited t → t.connection_trace.role ≡ role → (id : ℕ) → CarriesCallOn role t id
+pub spelled_as : (role : Role) (t : CallTrace) (output : List ℕ) → IsSoundCallTrace t output → AreSuited t → t.connection_trace.role ≡ role → (id : ℕ) → CarriesCallOn role t id
 spelled_as role t output h suited is id = subst (λ (r : Role). CarriesCallOn r t id) is (h.spelled id (suited id))
 
 pub servers_answer : WrittenBlocksAreRead → ServersAnswer

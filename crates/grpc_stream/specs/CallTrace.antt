@@ -185,7 +185,8 @@ abbrev pub head_by : Option (ℕ × Method) → List Field
 head_by None = []
 head_by (Some call) = request_fields call.1
 
-abbrev half : Item CallEnd → Item (Unit {0})
+-- what of an end a half-close says
+abbrev pub half : Item CallEnd → Item (Unit {0})
 half (Message message) = Message message
 half (Finish close) = Finish tt
 
@@ -226,7 +227,8 @@ pub record IsSoundCallTrace (t : CallTrace) (output : List ℕ) : Type 0 where
       IsErrorReset t.connection_trace.role t.connection_trace.limits t.connection_trace.heads past f ⊎ Contains t.resets (stream_of f)
   pub spelled : (id : ℕ) → All (λ what. suits t.connection_trace.role what ≡ true) (queued_on t id) → CarriesCallOn t.connection_trace.role t id
   -- no DATA is padded, so the bytes that DATA counts are those of messages
-  pub unpadded : (past behind : List Step) (b : FrameBody) → t.connection_trace.frames ≡ past ++ Sent (Content b) ∷ behind → has_padding (Content b) ≡ false
+  pub unpadded : (past behind : List Step) (b : FrameBody) → t.connection_trace.frames ≡ past ++ Sent (Content b) ∷ behind →
+      has_padding (Content b) ≡ false
   -- what was taken is for streams that were begun, and a client's calls are those
   pub begun_first : (id : ℕ) → is_begun t.connection_trace.role t.connection_trace.frames id ≡ false → queued_on t id ≡ []
   pub calls : t.connection_trace.role ≡ Client → map (λ (call : ℕ × Method). call.0) t.begun ≡ begun Client t.connection_trace.frames

@@ -6,11 +6,13 @@ use Rattle.grpc_heads.specs.Written.{response_fields}
 use Rattle.h2_exchange.specs.declared.role.Role.TheVariants.{Client, Server}
 use Rattle.h2_exchange.specs.Calls.{Call, shown}
 use Rattle.h2_exchange.specs.Exchange.{collect, sent}
-use Rattle.h2_exchange.specs.Streams.{is_begun, is_reset, is_ended_by}
+use Rattle.h2_exchange.specs.Streams.{is_begun, is_ended_by, is_reset}
 use Rattle.h2_exchange.specs.Requests.{RequestsBegin, RequestIs}
 use Rattle.h2_exchange.specs.StreamParts.{AnswersBegin, AnswersAre}
+use Rattle.h2_conn.specs.ConnectionTrace.{is_alive}
 use Rattle.grpc_stream.specs.NextEvent.{shown_events_of}
-use Rattle.grpc_stream.specs.CallTrace.{CallTrace, Asked, CallEnd, IsSoundCallTrace, asked_on, call_end_of, is_ended, unsent_on, queued_on, suits}
+use Rattle.grpc_stream.specs.Sends.{Pumps}
+use Rattle.grpc_stream.specs.CallTrace.{CallTrace, Asked, CallEnd, IsSoundCallTrace, asked_on, call_end_of, is_ended, unsent_on, queued_on, suits, waiting_in}
 
 -- each end that was taken is one of its side
 abbrev pub AreSuited : CallTrace → Type 0
@@ -18,25 +20,44 @@ AreSuited t = (id : ℕ) → All (λ what. suits t.connection_trace.role what �
 
 -- a server's frames spell on each stream a first part of what it is owed
 abbrev pub ServersAnswer : Type 0
-ServersAnswer = (t : CallTrace) (output : List ℕ) → IsSoundCallTrace t output → AreSuited t → t.connection_trace.role ≡ Server → AnswersBegin response_fields (call_end_of t.numbers) t.connection_trace.frames (queued_on t)
+ServersAnswer =
+    (t : CallTrace) (output : List ℕ) → IsSoundCallTrace t output → AreSuited t → t.connection_trace.role ≡ Server →
+    AnswersBegin response_fields (call_end_of t.numbers) t.connection_trace.frames (queued_on t)
 
 -- a client's frames spell on each stream a first part of what it is to ask
 abbrev pub ClientsAsk : Type 0
-ClientsAsk = (t : CallTrace) (output : List ℕ) → IsSoundCallTrace t output → AreSuited t → t.connection_trace.role ≡ Client → RequestsBegin t.connection_trace.frames (asked_on t)
+ClientsAsk =
+    (t : CallTrace) (output : List ℕ) → IsSoundCallTrace t output → AreSuited t → t.connection_trace.role ≡ Client →
+    RequestsBegin t.connection_trace.frames (asked_on t)
 
 -- what is shown of a server's calls, one after another, is what is shown of all of them
 abbrev pub ServersShow : Type 0
 ServersShow = (cs : List (Call Method CallEnd)) → collect shown_events_of [] (map Asked cs) ≡ map Asked (shown cs)
 
--- On a stream that no side reset, where no bytes wait and an end that was taken is sent, a server's frames spell all that
--- it is owed.
+-- On a stream of which no bytes wait, and whose end is sent if it was taken, a server's frames spell all that it is owed.
 abbrev pub AllIsAnswered : Type 0
 AllIsAnswered =
-    (t : CallTrace) (output : List ℕ) → IsSoundCallTrace t output → AreSuited t → t.connection_trace.role ≡ Server → (id : ℕ) → is_reset t.connection_trace.frames id ≡ false → unsent_on t id ≡ 0 →
-    is_ended_by (sent t.connection_trace.frames) id ≡ is_ended t id → AnswersAre response_fields (call_end_of t.numbers) t.connection_trace.frames id (queued_on t id)
+    (t : CallTrace) (output : List ℕ) → IsSoundCallTrace t output → AreSuited t → t.connection_trace.role ≡ Server →
+    (id : ℕ) → unsent_on t id ≡ 0 → (is_ended t id ≡ true → is_ended_by (sent t.connection_trace.frames) id ≡ true) →
+    AnswersAre response_fields (call_end_of t.numbers) t.connection_trace.frames id (queued_on t id)
 
 -- and a client's all that it is to ask
 abbrev pub AllIsAsked : Type 0
 AllIsAsked =
-    (t : CallTrace) (output : List ℕ) → IsSoundCallTrace t output → AreSuited t → t.connection_trace.role ≡ Client → (id : ℕ) → is_begun Client t.connection_trace.frames id ≡ true → is_reset t.connection_trace.frames id ≡ false → unsent_on t id ≡ 0 →
-    is_ended_by (sent t.connection_trace.frames) id ≡ is_ended t id → RequestIs t.connection_trace.frames id (asked_on t id)
+    (t : CallTrace) (output : List ℕ) → IsSoundCallTrace t output → AreSuited t → t.connection_trace.role ≡ Client →
+    (id : ℕ) → is_begun Client t.connection_trace.frames id ≡ true → unsent_on t id ≡ 0 →
+    (is_ended t id ≡ true → is_ended_by (sent t.connection_trace.frames) id ≡ true) → RequestIs t.connection_trace.frames id (asked_on t id)
+
+-- Where a pump leaves nothing waiting, a server's frames spell on each stream that no side reset all that it is owed.
+abbrev pub PumpedIsAnswered : Type 0
+PumpedIsAnswered =
+    (t u : CallTrace) (output : List ℕ) → IsSoundCallTrace u output → AreSuited u → u.connection_trace.role ≡ Server →
+    is_alive t.connection_trace ≡ true → Pumps t u → waiting_in u ≡ 0 → (id : ℕ) → is_reset u.connection_trace.frames id ≡ false →
+    AnswersAre response_fields (call_end_of u.numbers) u.connection_trace.frames id (queued_on u id)
+
+-- and a client's on each call that no side reset
+abbrev pub PumpedIsAsked : Type 0
+PumpedIsAsked =
+    (t u : CallTrace) (output : List ℕ) → IsSoundCallTrace u output → AreSuited u → u.connection_trace.role ≡ Client →
+    is_alive t.connection_trace ≡ true → Pumps t u → waiting_in u ≡ 0 → (id : ℕ) → is_begun Client u.connection_trace.frames id ≡ true →
+    is_reset u.connection_trace.frames id ≡ false → RequestIs u.connection_trace.frames id (asked_on u id)

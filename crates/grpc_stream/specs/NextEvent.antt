@@ -50,7 +50,9 @@ answer_to t other = []
 -- what was told, one after another, with what answers it
 pub data AppendsPeerEvents : CallTrace → List PeerEvent → CallTrace → Type 0 where
   none : (t : CallTrace) → AppendsPeerEvents t [] t
-  one : (t u : CallTrace) (reported : PeerEvent) (more : List PeerEvent) → AppendsPeerEvents (record t { reported = t.reported ++ reported ∷ []; taken = t.taken ++ answer_to t reported }) more u → AppendsPeerEvents t (reported ∷ more) u
+  one : (t u : CallTrace) (reported : PeerEvent) (more : List PeerEvent) →
+      AppendsPeerEvents (record t { reported = t.reported ++ reported ∷ []; taken = t.taken ++ answer_to t reported }) more u →
+      AppendsPeerEvents t (reported ∷ more) u
 
 -- The connection gave events, one after another. The frames that it sends by that are all that is sent.
 pub data GoesOn : ConnectionTrace → ConnectionTrace → Type 0 where

@@ -31,5 +31,7 @@ pub record Pumps (t u : CallTrace) : Type 0 where
   pub goes_on : u ≡ changed (wrote fs lists) t
   pub carried : AreCarried t.connection_trace.role t.connection_trace.frames fs
   pub refused : is_alive t.connection_trace ≡ false → fs ≡ []
-  pub full : is_alive t.connection_trace ≡ true → (id : ℕ) → is_live u.connection_trace.role u.connection_trace.frames id ≡ true → 0 < unsent_on u id → may_send u.connection_trace.frames id ≡ 0
-  pub ended : is_alive t.connection_trace ≡ true → (id : ℕ) → is_live u.connection_trace.role u.connection_trace.frames id ≡ true → unsent_on u id ≡ 0 → is_ended u id ≡ true → is_ended_by (sent u.connection_trace.frames) id ≡ true
+  pub full : is_alive t.connection_trace ≡ true → (id : ℕ) → is_live u.connection_trace.role u.connection_trace.frames id ≡ true →
+      0 < unsent_on u id → may_send u.connection_trace.frames id ≡ 0
+  pub ended : is_alive t.connection_trace ≡ true → (id : ℕ) → is_live u.connection_trace.role u.connection_trace.frames id ≡ true →
+      unsent_on u id ≡ 0 → is_ended u id ≡ true → is_ended_by (sent u.connection_trace.frames) id ≡ true

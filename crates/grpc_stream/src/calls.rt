@@ -70,7 +70,8 @@ pub trait CallConnection: Drop {
     /// Takes the status that ends a call.
     fn end(&mut self, n: &Numbering, stream: u32, status: Status) -> Result<(), SendFault>
         requires { sum_by size_of (response_fields ++ trailer_fields n.now status) ≤ 65536 }
-        ensures ok { (t : CallTrace) → stands self.old t → t.numbers ≡ n.now → OnOk result (stands self.new (took stream (Finish (call_trace.Status status)) t)) }
+        ensures ok { (t : CallTrace) → stands self.old t → t.numbers ≡ n.now →
+            OnOk result (stands self.new (took stream (Finish (call_trace.Status status)) t)) }
         ensures err { OnErr result (Keeps (stands self.old) (stands self.new)) }
         ensures sends { (t : CallTrace) → stands self.old t → SendsWhere (is_taking t stream) result }
         ensures ahead { ahead self.new ≡ ahead self.old };
@@ -87,12 +88,14 @@ pub trait CallConnection: Drop {
         ensures ok { (t : CallTrace) → stands self.old t → OnOk result ((fs : List Frame) × CarryReset stream code.CANCEL fs
             × stands self.new (record (changed (wrote fs []) t) { resets = t.resets ++ stream ∷ [] })) }
         ensures err { OnErr result (Keeps (stands self.old) (stands self.new)) }
-        ensures sends { (t : CallTrace) → stands self.old t → SendsWhere (is_alive t.connection_trace && is_live t.connection_trace.role t.connection_trace.frames stream) result }
+        ensures sends { (t : CallTrace) → stands self.old t →
+            SendsWhere (is_alive t.connection_trace && is_live t.connection_trace.role t.connection_trace.frames stream) result }
         ensures ahead { ahead self.new ≡ ahead self.old };
 
     /// Holds credit back, or ends that and sends what is owed.
     fn hold_credit(&mut self, hold: bool) -> Result<(), AllocError>
-        ensures ok { (t : CallTrace) → stands self.old t → OnOk result ((fs : List Frame) × CarryCredit hold t.connection_trace fs × stands self.new (changed (λ c. held hold (wrote fs [] c)) t)) }
+        ensures ok { (t : CallTrace) → stands self.old t → OnOk result ((fs : List Frame) × CarryCredit hold t.connection_trace fs
+            × stands self.new (changed (λ c. held hold (wrote fs [] c)) t)) }
         ensures err { OnErr result (Keeps (stands self.old) (stands self.new)) }
         ensures ahead { ahead self.new ≡ ahead self.old };
 

@@ -12,7 +12,8 @@ pub enum CallEvent {
     Request(u32, Bytes),
     /// A client ended its side of a call.
     Finished(u32),
-    /// A call that had begun is over: its client reset it, it broke a rule, or it is refused.
+    /// A call that had begun is over: its client reset it, it broke a rule, or it is refused. At a client:
+    /// a message of the server is refused, and the call wants its reset.
     Dropped(u32),
     /// A whole message of a server.
     Answered(u32, Bytes),

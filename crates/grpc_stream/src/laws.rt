@@ -1,5 +1,5 @@
 //! What the calls of a connection spell.
-ghost use Rattle.grpc_stream.specs.Laws.{ClientsAsk, ServersAnswer, ServersShow};
+ghost use Rattle.grpc_stream.specs.Laws.{AllIsAnswered, AllIsAsked, ClientsAsk, PumpedIsAnswered, PumpedIsAsked, ServersAnswer, ServersShow};
 
 use h2_exchange::laws::written_blocks_are_read;
 
@@ -22,3 +22,35 @@ pub fn clients_ask()
 pub fn servers_show()
     ensures { ServersShow }
 {}
+
+/// Where no bytes of a stream wait, and an end that was taken for it is sent, what a server sent spells
+/// on it all that was taken.
+pub fn all_is_answered()
+    ensures { AllIsAnswered }
+{
+    written_blocks_are_read()
+}
+
+/// Where no bytes of a call wait, and its end is sent if it was taken, what a client sent spells its head
+/// and all that was taken for it.
+pub fn all_is_asked()
+    ensures { AllIsAsked }
+{
+    written_blocks_are_read()
+}
+
+/// Where a pump leaves nothing waiting, what a server sent spells on each stream that no side reset all
+/// that was taken for it.
+pub fn pumped_is_answered()
+    ensures { PumpedIsAnswered }
+{
+    written_blocks_are_read()
+}
+
+/// Where a pump leaves nothing waiting, what a client sent spells on each call that no side reset its head
+/// and all that was taken for it.
+pub fn pumped_is_asked()
+    ensures { PumpedIsAsked }
+{
+    written_blocks_are_read()
+}
