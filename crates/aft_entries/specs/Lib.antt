@@ -1,5 +1,6 @@
 pub mod IndexOnly
 pub mod Checked
+pub mod Devices
 pub mod MemberOrder
 pub mod InstanceNames
 pub mod Operations

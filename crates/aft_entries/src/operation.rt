@@ -57,7 +57,9 @@ impl Reason {
 /// What a device did with a call.
 #[derive(Clone, Copy, Debug, PartialEq, Eq)]
 pub enum Act {
+    /// It did what was asked.
     Done,
+    /// It failed, and has what it had.
     Failed,
 }
 
