@@ -13,7 +13,7 @@ use Rattle.h2_exchange.specs.Exchange.{Step, Received, Sent, received, sent, som
 use Rattle.h2_exchange.specs.Frames.{stream_of, is_headers, increment_of}
 use Rattle.h2_exchange.specs.Streams.{of_client, highest, is_odd, begins, begun, is_begun, is_live, is_over, is_reset, is_ended_by, has_head, live}
 use Rattle.h2_exchange.specs.Windows.{initial_window, granted_on, spent_on, spent}
-use Rattle.h2_exchange.proofs.Steps.{received_sent, sent_push, window_sums_grow, begun_within, begun_has}
+use Rattle.h2_exchange.proofs.Steps.{received_sent, sent_push, window_sums_grow, begun_once, begun_within, begun_has}
 use Rattle.h2_streams.specs.declared.live.Stream.{Stream}
 use Rattle.h2_streams.specs.Live.{replaced}
 use Rattle.h2_streams.specs.Set.{Set, at, credited, credited_at, credited_on}
@@ -54,7 +54,7 @@ module _ (role : Role) (limits : H2Limits) (x : List Step) (b : FrameBody) (k : 
   pub live_replaced : map (stream_at limits after) (live role after) ≡ replaced k (stream_at limits after k) (map (stream_at limits x) (live role x))
   live_replaced =
       ap (λ (ids : List ℕ). map (stream_at limits after) (filter (is_live role after) ids)) (nothing_new role x (WindowUpdate b) refl)
-      ∙ replaced_is (is_live role x) (is_live role after) (stream_at limits x) (stream_at limits after) (λ id. refl) k (λ id f. (live_same id, other_same id f)) (live_same k) (begun role x)
+      ∙ replaced_is (is_live role x) (is_live role after) (stream_at limits x) (stream_at limits after) (λ id. refl) k (λ id f. (live_same id, other_same id f)) (live_same k) (begun role x) (begun_once role x k)
 
   -- the stream with what was granted
   pub more_room : (n : ℕ) → increment_of (WindowUpdate b) ≡ n → spent_on k (received x) ≤ limits.window + granted_on k (sent x) → stream_at limits after k ≡ record (stream_at limits x k) { receive = (stream_at limits x k).receive + n }

@@ -9,7 +9,7 @@ use Rattle.h2_exchange.specs.Exchange.{Step, Sent, received, sent}
 use Rattle.h2_exchange.specs.Frames.{has_end_stream}
 use Rattle.h2_exchange.specs.Streams.{of_client, highest, begun, is_begun, is_live, is_open, is_over, is_reset, is_ended_by, has_head, live}
 use Rattle.h2_exchange.specs.Windows.{initial_window, granted_on, spent_on, spent as all_spent}
-use Rattle.h2_exchange.proofs.Steps.{received_sent, sent_push, window_sums_grow, begun_within}
+use Rattle.h2_exchange.proofs.Steps.{received_sent, sent_push, window_sums_grow, begun_once, begun_within}
 use Rattle.h2_streams.specs.declared.live.Stream.{Stream}
 use Rattle.h2_streams.specs.Live.{is_stream, replaced, without}
 use Rattle.h2_streams.specs.Set.{Set, at, dropped, closed_local, finished, spent, room_of}
@@ -22,27 +22,36 @@ use Rattle.h2_streams.proofs.Sends.{if_test, when_test, front_true, back_true, r
 
 pub found_again : (k : ℕ) (new old : Stream) (xs : List Stream) → is_stream k new ≡ true → find (is_stream k) xs ≡ Some old → find (is_stream k) (replaced k new xs) ≡ Some new
 found_again k new old [] e f = absurd cc
-found_again k new old (s ∷ xs) e f = by (is_stream k s) (find (is_stream k) xs) (find (is_stream k) (replaced k new xs)) refl (λ g. found_again k new old xs e g) f
+found_again k new old (s ∷ xs) e f = by (is_stream k s) (find (is_stream k) xs) refl (λ g. found_again k new old xs e g) refl f
   where
-    by : (b : Bool) (later again : Option Stream) → is_stream k s ≡ b → (later ≡ Some old → again ≡ Some new) → (if b then Some s else later) ≡ Some old → (if is_stream k (if is_stream k s then new else s) then Some (if is_stream k s then new else s) else again) ≡ Some new
-    by true later again t r f = ap (λ (z : Bool). if is_stream k (if z then new else s) then Some (if z then new else s) else again) t ∙ ap (λ (z : Bool). if z then Some new else again) e
-    by false later again t r f = ap (λ (z : Bool). if is_stream k (if z then new else s) then Some (if z then new else s) else again) t ∙ ap (λ (z : Bool). if z then Some s else again) t ∙ r f
+    by : (b : Bool) (later : Option Stream) → is_stream k s ≡ b → (find (is_stream k) xs ≡ Some old → find (is_stream k) (replaced k new xs) ≡ Some new) → find (is_stream k) xs ≡ later → (if b then Some s else later) ≡ Some old →
+        find (is_stream k) (if is_stream k s then new ∷ xs else s ∷ replaced k new xs) ≡ Some new
+    by true later t r l f = ap (λ (z : Bool). find (is_stream k) (if z then new ∷ xs else s ∷ replaced k new xs)) t ∙ ap (λ (z : Bool). if z then Some new else find (is_stream k) xs) e
+    by false later t r l f = ap (λ (z : Bool). find (is_stream k) (if z then new ∷ xs else s ∷ replaced k new xs)) t ∙ ap (λ (z : Bool). if z then Some s else find (is_stream k) (replaced k new xs)) t ∙ r (l ∙ f)
 
 replaced_again : (k : ℕ) (next new : Stream) (xs : List Stream) → is_stream k new ≡ true → replaced k next (replaced k new xs) ≡ replaced k next xs
 replaced_again k next new [] e = refl
 replaced_again k next new (s ∷ xs) e = by (is_stream k s) refl (replaced_again k next new xs e)
   where
-    by : (b : Bool) → is_stream k s ≡ b → replaced k next (replaced k new xs) ≡ replaced k next xs → (if is_stream k (if is_stream k s then new else s) then next else (if is_stream k s then new else s)) ∷ replaced k next (replaced k new xs) ≡ (if is_stream k s then next else s) ∷ replaced k next xs
-    by true t r = ap (λ (z : Bool). (if is_stream k (if z then new else s) then next else (if z then new else s)) ∷ replaced k next (replaced k new xs)) t ∙ ap (λ (z : Bool). (if z then next else new) ∷ replaced k next (replaced k new xs)) e ∙ ap (λ (l : List Stream). next ∷ l) r ∙ ap (λ (z : Bool). (if z then next else s) ∷ replaced k next xs) (sym t)
-    by false t r = ap (λ (z : Bool). (if is_stream k (if z then new else s) then next else (if z then new else s)) ∷ replaced k next (replaced k new xs)) t ∙ ap (λ (l : List Stream). (if is_stream k s then next else s) ∷ l) r
+    by : (b : Bool) → is_stream k s ≡ b → replaced k next (replaced k new xs) ≡ replaced k next xs → replaced k next (if is_stream k s then new ∷ xs else s ∷ replaced k new xs) ≡ (if is_stream k s then next ∷ xs else s ∷ replaced k next xs)
+    by true t r =
+        ap (λ (z : Bool). replaced k next (if z then new ∷ xs else s ∷ replaced k new xs)) t ∙ ap (λ (z : Bool). if z then next ∷ xs else new ∷ replaced k next xs) e
+        ∙ sym (ap (λ (z : Bool). if z then next ∷ xs else s ∷ replaced k next xs) t)
+    by false t r =
+        ap (λ (z : Bool). replaced k next (if z then new ∷ xs else s ∷ replaced k new xs)) t ∙ ap (λ (z : Bool). if z then next ∷ replaced k new xs else s ∷ replaced k next (replaced k new xs)) t
+        ∙ ap (λ (l : List Stream). s ∷ l) r ∙ sym (ap (λ (z : Bool). if z then next ∷ xs else s ∷ replaced k next xs) t)
 
 left_out_again : (k : ℕ) (new : Stream) (xs : List Stream) → is_stream k new ≡ true → without k (replaced k new xs) ≡ without k xs
 left_out_again k new [] e = refl
 left_out_again k new (s ∷ xs) e = by (is_stream k s) refl (left_out_again k new xs e)
   where
-    by : (b : Bool) → is_stream k s ≡ b → without k (replaced k new xs) ≡ without k xs → (if not (is_stream k (if is_stream k s then new else s)) then (if is_stream k s then new else s) ∷ without k (replaced k new xs) else without k (replaced k new xs)) ≡ (if not (is_stream k s) then s ∷ without k xs else without k xs)
-    by true t r = ap (λ (z : Bool). if not (is_stream k (if z then new else s)) then (if z then new else s) ∷ without k (replaced k new xs) else without k (replaced k new xs)) t ∙ ap (λ (z : Bool). if not z then new ∷ without k (replaced k new xs) else without k (replaced k new xs)) e ∙ r ∙ ap (λ (z : Bool). if not z then s ∷ without k xs else without k xs) (sym t)
-    by false t r = ap (λ (z : Bool). if not (is_stream k (if z then new else s)) then (if z then new else s) ∷ without k (replaced k new xs) else without k (replaced k new xs)) t ∙ ap (λ (l : List Stream). if not (is_stream k s) then s ∷ l else l) r
+    by : (b : Bool) → is_stream k s ≡ b → without k (replaced k new xs) ≡ without k xs → without k (if is_stream k s then new ∷ xs else s ∷ replaced k new xs) ≡ (if not (is_stream k s) then s ∷ without k xs else without k xs)
+    by true t r =
+        ap (λ (z : Bool). without k (if z then new ∷ xs else s ∷ replaced k new xs)) t ∙ ap (λ (z : Bool). if not z then new ∷ without k xs else without k xs) e
+        ∙ sym (ap (λ (z : Bool). if not z then s ∷ without k xs else without k xs) t)
+    by false t r =
+        ap (λ (z : Bool). without k (if z then new ∷ xs else s ∷ replaced k new xs)) t ∙ ap (λ (z : Bool). if not z then s ∷ without k (replaced k new xs) else without k (replaced k new xs)) t
+        ∙ ap (λ (l : List Stream). s ∷ l) r ∙ sym (ap (λ (z : Bool). if not z then s ∷ without k xs else without k xs) t)
 
 -- ---- the end of a side
 
@@ -177,7 +186,7 @@ ends_with_data s x k b h open-here on fits end = by (is_ended_by (received x) k)
     is_half : is_ended_by (received x) k ≡ false → replaced k ended (replaced k less s.live) ≡ map (stream_at s.limits after) (live s.role after)
     is_half e =
         replaced_again k ended less s.live is_k ∙ ap (replaced k ended) h.live_is ∙ ap (λ (t : Stream). replaced k t (map (stream_at s.limits x) (live s.role x))) (sym ended_is)
-        ∙ sym (replaced_is (is_live s.role x) (is_live s.role after) (stream_at s.limits x) (stream_at s.limits after) (λ id. refl) k (λ id f. (live_other s.role s.limits x b k on id f, other_same s.role s.limits x b k on id f)) (still_live e) (begun s.role x))
+        ∙ sym (replaced_is (is_live s.role x) (is_live s.role after) (stream_at s.limits x) (stream_at s.limits after) (λ id. refl) k (λ id f. (live_other s.role s.limits x b k on id f, other_same s.role s.limits x b k on id f)) (still_live e) (begun s.role x) (begun_once s.role x k))
         ∙ sym begun_list
 
     by : (t : Bool) → is_ended_by (received x) k ≡ t → StandsFor (finished k (spent k n s)) after

@@ -3,7 +3,7 @@ use Rattle.std.proofs.Common.{◌≡◌, ℕ, ◌+◌, ◌-◌, ◌<◌, ◌≤�
 use Rattle.std.specs.Prelude.{not, nat_lt, find, is_some, option_map, ◌==◌, if◌then◌else◌}
 use Rattle.std.specs.Option.{option_or}
 use Rattle.std.proofs.lemmas.Bool.Decides.{nat_tests}
-use Rattle.std.proofs.lemmas.List.{length-append, length-map}
+use Rattle.std.proofs.lemmas.List.{length-append}
 use Rattle.h2_frames.specs.declared.code.ErrorCode.{ErrorCode}
 use Rattle.h2_frames.specs.declared.code.TheConstants.ErrorCode as code
 use Rattle.h2_frames.specs.declared.frame.Frame.{Frame}
@@ -22,7 +22,7 @@ use Rattle.h2_streams.specs.ConnectionErrors.{frame_error_in, live_error_in}
 use Rattle.h2_streams.specs.Receiving.{block_with, completed_by, left_open, is_new_in, seen_in, is_full_in, block_error_in, fault_on, fault_in, changed_in, left_as, outcome_on, live_behind}
 use Rattle.h2_streams.specs.Set.{Set, at, new_stream}
 use Rattle.h2_streams.proofs.Lists.{eqb_is, self_eq}
-use Rattle.h2_streams.proofs.Places.{without_fewer, without_found, found_id, waits_replaced}
+use Rattle.h2_streams.proofs.Places.{replaced_length, without_fewer, without_found, found_id, waits_replaced}
 use Rattle.h2_streams.proofs.Sound.{IsSound, is_sound}
 
 no_truth : true ≡ false → ⊥
@@ -31,9 +31,9 @@ no_truth e = cc
 settled_fewer : (k : ℕ) (outcome : StreamOutcome) (xs : List Stream) → length (with_outcome false k outcome xs) ≤ length xs
 settled_fewer k NoStream xs = omega arith
 settled_fewer k Over xs = without_fewer k xs
-settled_fewer k (Alive t) xs = omega (arith, length-map xs (λ (s : Stream). if is_stream k s then t else s))
+settled_fewer k (Alive t) xs = omega (arith, replaced_length k t xs)
 
-found_last : (k : ℕ) (t : Stream) (xs : List Stream) → find (is_stream k) xs ≡ None → is_stream k t ≡ true → find (is_stream k) (xs ++ t ∷ []) ≡ Some t
+pub found_last : (k : ℕ) (t : Stream) (xs : List Stream) → find (is_stream k) xs ≡ None → is_stream k t ≡ true → find (is_stream k) (xs ++ t ∷ []) ≡ Some t
 found_last k t [] e f = ap (λ (b : Bool). if b then Some t else None) f
 found_last k t (s ∷ xs) e f = by (is_stream k s) (find (is_stream k) xs) (λ g. found_last k t xs g f) e
   where
@@ -211,7 +211,7 @@ module _ (s : Set) (f : Frame) (places : ℕ) (server : s.role ≡ Server) (stre
       waits e u id_is head_is same = λ w.
           let open_is : left_open s.block f ≡ Some block = ap (λ (b : Bool). if b then None else block_with s.block f) e ∙ same_block in
           let quiet : is_waiting (Some block) s.live ≡ false = sym (waits_replaced (Some block) k t u s.live id_is found head_is) ∙ ap (is_waiting (Some block)) (sym same) ∙ ap (λ (o : Option (ℕ × Bool)). is_waiting o (live_behind s f)) (sym open_is) ∙ w in
-          omega (arith, h quiet, ap length same, length-map s.live (λ (v : Stream). if is_stream k v then u else v))
+          omega (arith, h quiet, ap length same, replaced_length k u s.live)
 
       -- the block is whole
       whole : has_end_headers f ≡ true → fault_on s f (Some t) ≡ None → Kept

@@ -2,6 +2,7 @@ pub mod Lists
 pub mod Standing
 pub mod SentFrames
 pub mod Resets
+pub mod Seen
 pub mod Sends
 pub mod Ends
 pub mod Begins

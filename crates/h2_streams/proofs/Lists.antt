@@ -5,6 +5,7 @@ use Rattle.std.specs.List.{list_any}
 use Rattle.std.proofs.lemmas.Bool.Decides.{nat_tests}
 use Rattle.std.proofs.lemmas.List.Elements.{filter-append}
 use Rattle.std.proofs.lemmas.List.{append-nil, map-append}
+use Rattle.h2_exchange.proofs.Steps.{is_once}
 use Rattle.h2_streams.specs.declared.live.Stream.{Stream}
 use Rattle.h2_streams.specs.Live.{is_stream, replaced, without}
 
@@ -41,26 +42,9 @@ module _ (p q : ℕ → Bool) (g h : ℕ → Stream) (names_g : (id : ℕ) → (
       by true t = absurd (f (sym e ∙ eqb_is s.id k t))
       by false t = refl
 
-  this_changes : (k id : ℕ) (new s : Stream) → s.id ≡ id → id ≡ k → (if is_stream k s then new else s) ≡ new
-  this_changes k id new s e f = ap (λ (b : Bool). if b then new else s) (ap (λ (n : ℕ). n == k) (e ∙ f) ∙ self_eq k)
-
-  map_if : (b : Bool) (s : Stream) (xs : List Stream) (f : Stream → Stream) → map f (if b then s ∷ xs else xs) ≡ (if b then f s ∷ map f xs else map f xs)
-  map_if true s xs f = refl
-  map_if false s xs f = refl
-
   map_kept : (b : Bool) (r : ℕ → Stream) (id : ℕ) (ids : List ℕ) → map r (if b then id ∷ ids else ids) ≡ (if b then r id ∷ map r ids else map r ids)
   map_kept true r id ids = refl
   map_kept false r id ids = refl
-
-  pub replaced_is : (k : ℕ) → SameBut k → q k ≡ p k → (ids : List ℕ) → map h (filter q ids) ≡ replaced k (h k) (map g (filter p ids))
-  replaced_is k same alive [] = refl
-  replaced_is k same alive (id ∷ ids) =
-      map_kept (q id) h id (filter q ids)
-      ∙ by_number (λ id. (if q id then h id ∷ map h (filter q ids) else map h (filter q ids)) ≡ (if p id then (if is_stream k (g id) then h k else g id) ∷ replaced k (h k) (map g (filter p ids)) else replaced k (h k) (map g (filter p ids)))) k id
-      (λ e. cell (q id) (p id) (h id) (if is_stream k (g id) then h k else g id) (map h (filter q ids)) (replaced k (h k) (map g (filter p ids))) (ap q e ∙ alive ∙ ap p (sym e)) (ap h e ∙ sym (this_changes k id (h k) (g id) (names_g id) e)) (replaced_is k same alive ids))
-      (λ f. cell (q id) (p id) (h id) (if is_stream k (g id) then h k else g id) (map h (filter q ids)) (replaced k (h k) (map g (filter p ids))) (same id f).0 ((same id f).1 ∙ sym (other_stays k id (h k) (g id) (names_g id) f)) (replaced_is k same alive ids))
-      ∙ sym (map_if (p id) (g id) (map g (filter p ids)) (λ s. if is_stream k s then h k else s))
-      ∙ ap (replaced k (h k)) (sym (map_kept (p id) g id (filter p ids)))
 
   left_out : (b : Bool) (k : ℕ) (s : Stream) (xs : List Stream) → without k (if b then s ∷ xs else xs) ≡ (if b then (if not (is_stream k s) then s ∷ without k xs else without k xs) else without k xs)
   left_out true k s xs = refl
@@ -113,6 +97,55 @@ module _ (p q : ℕ → Bool) (g h : ℕ → Stream) (names_g : (id : ℕ) → (
       second : (a b : Bool) → (a || b) ≡ false → b ≡ false
       second true b e = absurd cc
       second false b e = e
+
+  -- where none has this id none is replaced
+  nothing_replaced : (k : ℕ) (t : Stream) (ids : List ℕ) → list_any (λ id. id == k) ids ≡ false → replaced k t (map g (filter p ids)) ≡ map g (filter p ids)
+  nothing_replaced k t [] e = refl
+  nothing_replaced k t (id ∷ ids) e =
+      ap (replaced k t) (map_kept (p id) g id (filter p ids)) ∙ by (id == k) refl (p id) e (λ n. nothing_replaced k t ids n) ∙ sym (map_kept (p id) g id (filter p ids))
+    where
+      by : (b : Bool) → (id == k) ≡ b → (c : Bool) → (b || list_any (λ i. i == k) ids) ≡ false → (list_any (λ i. i == k) ids ≡ false → replaced k t (map g (filter p ids)) ≡ map g (filter p ids)) →
+          replaced k t (if c then g id ∷ map g (filter p ids) else map g (filter p ids)) ≡ (if c then g id ∷ map g (filter p ids) else map g (filter p ids))
+      by true f c n r = absurd cc
+      by false f false n r = r n
+      by false f true n r =
+          ap (λ (b : Bool). if b then t ∷ map g (filter p ids) else g id ∷ replaced k t (map g (filter p ids))) (ap (λ (m : ℕ). m == k) (names_g id) ∙ f) ∙ ap (λ (l : List Stream). g id ∷ l) (r n)
+
+  both_cells : (s t : Stream) (xs ys : List Stream) → s ≡ t → xs ≡ ys → s ∷ xs ≡ t ∷ ys
+  both_cells s t xs ys e f = cc
+
+  not_both : (b : Bool) → b ≡ true → b ≡ false → ⊥
+  not_both b e f = absurd cc
+
+  was_not : (b : Bool) → not b ≡ true → b ≡ false
+  was_not true e = absurd cc
+  was_not false e = refl
+
+  pub replaced_is : (k : ℕ) → SameBut k → q k ≡ p k → (ids : List ℕ) → is_once k ids ≡ true → map h (filter q ids) ≡ replaced k (h k) (map g (filter p ids))
+  replaced_is k same alive [] once = refl
+  replaced_is k same alive (id ∷ ids) once =
+      map_kept (q id) h id (filter q ids) ∙ by (id == k) refl (q id) (p id) refl refl once (λ o. replaced_is k same alive ids o) ∙ sym (ap (replaced k (h k)) (map_kept (p id) g id (filter p ids)))
+    where
+      head : (b : Bool) → (id == k) ≡ b → (if b then h k ∷ map g (filter p ids) else g id ∷ replaced k (h k) (map g (filter p ids))) ≡ replaced k (h k) (g id ∷ map g (filter p ids))
+      head b f = ap (λ (b : Bool). if b then h k ∷ map g (filter p ids) else g id ∷ replaced k (h k) (map g (filter p ids))) (sym (ap (λ (m : ℕ). m == k) (names_g id) ∙ f))
+
+      alike : (c d : Bool) → q id ≡ c → p id ≡ d → q id ≡ p id → c ≡ d
+      alike c d e f i = sym e ∙ i ∙ f
+
+      here : (id == k) ≡ true → q id ≡ p id
+      here f = ap q (eqb_is id k f) ∙ alive ∙ ap p (sym (eqb_is id k f))
+
+      by : (b : Bool) → (id == k) ≡ b → (c d : Bool) → q id ≡ c → p id ≡ d → (if b then not (list_any (λ i. i == k) ids) else is_once k ids) ≡ true →
+          (is_once k ids ≡ true → map h (filter q ids) ≡ replaced k (h k) (map g (filter p ids))) →
+          (if c then h id ∷ map h (filter q ids) else map h (filter q ids)) ≡ replaced k (h k) (if d then g id ∷ map g (filter p ids) else map g (filter p ids))
+      by true f true true e e' o r = both_cells (h id) (h k) (map h (filter q ids)) (map g (filter p ids)) (ap h (eqb_is id k f)) (untouched_is k same ids (was_not (list_any (λ i. i == k) ids) o)) ∙ head true f
+      by true f false false e e' o r = untouched_is k same ids (was_not (list_any (λ i. i == k) ids) o) ∙ sym (nothing_replaced k (h k) ids (was_not (list_any (λ i. i == k) ids) o))
+      by true f true false e e' o r = absurd (not_both true refl (alike true false e e' (here f)))
+      by true f false true e e' o r = absurd (not_both true refl (sym (alike false true e e' (here f))))
+      by false f true true e e' o r = both_cells (h id) (g id) (map h (filter q ids)) (replaced k (h k) (map g (filter p ids))) (same id (eqb_isnt id k f)).1 (r o) ∙ head false f
+      by false f false false e e' o r = r o
+      by false f true false e e' o r = absurd (not_both true refl (alike true false e e' (same id (eqb_isnt id k f)).0))
+      by false f false true e e' o r = absurd (not_both true refl (sym (alike false true e e' (same id (eqb_isnt id k f)).0)))
 
   pub added_is : (k : ℕ) → SameBut k → q k ≡ true → (ids : List ℕ) → list_any (λ id. id == k) ids ≡ false → map h (filter q (ids ++ k ∷ [])) ≡ map g (filter p ids) ++ h k ∷ []
   added_is k same alive ids none =

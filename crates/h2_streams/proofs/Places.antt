@@ -1,7 +1,6 @@
 -- A server has a place for a new stream.
-use Rattle.std.proofs.Common.{◌≡◌, ℕ, ◌<◌, ◌≤◌, Bool, true, false, not, List, [], ◌∷◌, length, Option, Some, None, refl, sym, ap, ◌∙◌, arith}
+use Rattle.std.proofs.Common.{◌≡◌, ℕ, suc, ◌<◌, ◌≤◌, Bool, true, false, not, List, [], ◌∷◌, length, Option, Some, None, refl, sym, ap, ◌∙◌, arith}
 use Rattle.std.specs.Prelude.{find, ◌==◌, if◌then◌else◌}
-use Rattle.std.proofs.lemmas.List.{length-map}
 use Rattle.h2_exchange.specs.declared.role.Role.{Role}
 use Rattle.h2_exchange.specs.declared.role.Role.TheVariants.{Client, Server}
 use Rattle.h2_streams.specs.declared.live.Stream.{Stream}
@@ -61,9 +60,17 @@ found_replaced k j new (s ∷ xs) e f = by (is_stream k s) refl (found_replaced 
     old_isnt : is_stream k s ≡ true → is_stream j s ≡ false
     old_isnt g = ap (λ (n : ℕ). n == j) (eqb_is s.id k g) ∙ isnt j k (λ h. f (sym h))
 
-    by : (b : Bool) → is_stream k s ≡ b → find (is_stream j) (replaced k new xs) ≡ find (is_stream j) xs → find (is_stream j) ((if b then new else s) ∷ replaced k new xs) ≡ find (is_stream j) (s ∷ xs)
-    by true g r = ap (λ (t : Bool). if t then Some new else find (is_stream j) (replaced k new xs)) new_isnt ∙ r ∙ ap (λ (t : Bool). if t then Some s else find (is_stream j) xs) (sym (old_isnt g))
+    by : (b : Bool) → is_stream k s ≡ b → find (is_stream j) (replaced k new xs) ≡ find (is_stream j) xs → find (is_stream j) (if b then new ∷ xs else s ∷ replaced k new xs) ≡ find (is_stream j) (s ∷ xs)
+    by true g r = ap (λ (t : Bool). if t then Some new else find (is_stream j) xs) new_isnt ∙ ap (λ (t : Bool). if t then Some s else find (is_stream j) xs) (sym (old_isnt g))
     by false g r = ap (λ (o : Option Stream). if is_stream j s then Some s else o) r
+
+pub replaced_length : (k : ℕ) (new : Stream) (xs : List Stream) → length (replaced k new xs) ≡ length xs
+replaced_length k new [] = refl
+replaced_length k new (s ∷ xs) = by (is_stream k s) (replaced_length k new xs)
+  where
+    by : (b : Bool) → length (replaced k new xs) ≡ length xs → length (if b then new ∷ xs else s ∷ replaced k new xs) ≡ suc (length xs)
+    by true r = refl
+    by false r = ap suc r
 
 -- ---- a place is kept
 
@@ -77,7 +84,7 @@ waits_replaced (Some block) k old new xs e f g =
 pub place_replaced : (role : Role) (streams places : ℕ) (b : Option (ℕ × Bool)) (k : ℕ) (old new : Stream) (xs : List Stream) → new.id ≡ k → find (is_stream k) xs ≡ Some old → new.has_head ≡ old.has_head → HasPlace role streams places b xs → HasPlace role streams places b (replaced k new xs)
 place_replaced Client streams places b k old new xs e f g h = tt
 place_replaced Server streams places b k old new xs e f g h =
-    (h.0, λ w. omega (arith, h.1 (sym (waits_replaced b k old new xs e f g) ∙ w), length-map xs (λ (s : Stream). if is_stream k s then new else s)))
+    (h.0, λ w. omega (arith, h.1 (sym (waits_replaced b k old new xs e f g) ∙ w), replaced_length k new xs))
 
 pub place_without : (role : Role) (streams places : ℕ) (b : Option (ℕ × Bool)) (k : ℕ) (xs : List Stream) → length xs ≤ places → HasPlace role streams places b xs → HasPlace role streams places b (without k xs)
 place_without Client streams places b k xs le h = tt

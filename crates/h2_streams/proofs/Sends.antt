@@ -11,7 +11,7 @@ use Rattle.h2_exchange.specs.Exchange.{Step, Sent, received, sent}
 use Rattle.h2_exchange.specs.Frames.{has_end_stream}
 use Rattle.h2_exchange.specs.Streams.{of_client, highest, is_odd, begun, is_begun, is_live, is_open, is_over, is_reset, is_ended_by, live}
 use Rattle.h2_exchange.specs.Windows.{initial_window, granted_on, spent_on, spent as all_spent}
-use Rattle.h2_exchange.proofs.Steps.{received_sent, sent_push, window_sums_grow, begun_within}
+use Rattle.h2_exchange.proofs.Steps.{received_sent, sent_push, window_sums_grow, begun_once, begun_within}
 use Rattle.h2_streams.specs.declared.live.Stream.{Stream}
 use Rattle.h2_streams.specs.Live.{replaced}
 use Rattle.h2_streams.specs.Set.{Set, at, spent_at, spent, room_of}
@@ -74,7 +74,7 @@ module _ (role : Role) (limits : H2Limits) (x : List Step) (b : FrameBody) (k : 
   pub live_replaced : has_end_stream (Content b) ≡ false → map (stream_at limits after) (live role after) ≡ replaced k (stream_at limits after k) (map (stream_at limits x) (live role x))
   live_replaced e =
       ap (λ (ids : List ℕ). map (stream_at limits after) (filter (is_live role after) ids)) (nothing_new role x (Content b) refl)
-      ∙ replaced_is (is_live role x) (is_live role after) (stream_at limits x) (stream_at limits after) (λ id. refl) k (λ id f. (live_other id f, other_same id f)) (live_kept e) (begun role x)
+      ∙ replaced_is (is_live role x) (is_live role after) (stream_at limits x) (stream_at limits after) (λ id. refl) k (λ id f. (live_other id f, other_same id f)) (live_kept e) (begun role x) (begun_once role x k)
 
   -- the stream less what was sent
   pub less_room : has_end_stream (Content b) ≡ false → (n : ℕ) → length b.payload ≡ n → stream_at limits after k ≡ record (stream_at limits x k) { room = (stream_at limits x k).room - n }

@@ -16,7 +16,7 @@ use Rattle.h2_exchange.specs.Frames.{stream_of, is_data, is_headers, is_continua
 use Rattle.h2_exchange.specs.Streams.{of_client, highest, is_odd, is_new, begins, begun, is_begun, is_over, is_live, is_open, is_reset, is_ended_by, is_last_on, live}
 use Rattle.h2_exchange.specs.Windows.{initial_window, granted_on, spent_on, spent}
 use Rattle.h2_exchange.proofs.Looking.{or_nothing}
-use Rattle.h2_exchange.proofs.Steps.{received_sent, sent_push, window_sums_grow, header_blocks_grow, begun_push, begun_list_push, begun_within, highest_push}
+use Rattle.h2_exchange.proofs.Steps.{received_sent, sent_push, window_sums_grow, header_blocks_grow, begun_push, begun_list_push, begun_once, begun_within, highest_push}
 use Rattle.h2_streams.specs.declared.live.Stream.{Stream}
 use Rattle.h2_streams.specs.Laws.{BeginsNothing, HeaderFramesChangeNothing}
 use Rattle.h2_streams.specs.Live.{replaced, without}
@@ -277,7 +277,7 @@ module _ (s : Set) (x : List Step) (f : Frame) (h : StandsFor s x) (open_here : 
   is_half e =
       ap (replaced k (record was { is_closed_local = true })) h.live_is ∙ ap (λ (t : Stream). replaced k t (map (stream_at s.limits x) (live s.role x))) (sym ended_is)
       ∙ sym (replaced_is (is_live s.role x) (is_live s.role over) (stream_at s.limits x) (stream_at s.limits over) (λ id. refl) k others
-      (live_this ∙ ap (λ (t : Bool). is_begun s.role x k && not (is_reset x k || t && true)) e ∙ ap (λ (t : Bool). is_begun s.role x k && not (is_reset x k || t && is_ended_by (sent x) k)) (sym e)) (begun s.role x))
+      (live_this ∙ ap (λ (t : Bool). is_begun s.role x k && not (is_reset x k || t && true)) e ∙ ap (λ (t : Bool). is_begun s.role x k && not (is_reset x k || t && is_ended_by (sent x) k)) (sym e)) (begun s.role x) (begun_once s.role x k))
       ∙ sym begun_list
 
   finished_is : (t : Bool) → is_ended_by (received x) k ≡ t → finished k s ≡ left (if t then without k s.live else replaced k (record was { is_closed_local = true }) s.live)

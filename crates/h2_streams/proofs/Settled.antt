@@ -7,7 +7,7 @@ use Rattle.h2_frames.specs.declared.frame.Frame.{Frame}
 use Rattle.h2_exchange.specs.Exchange.{Step}
 use Rattle.h2_exchange.specs.Frames.{stream_of}
 use Rattle.h2_exchange.specs.Streams.{begun, is_begun, is_live, live}
-use Rattle.h2_exchange.proofs.Steps.{begun_has, begun_within}
+use Rattle.h2_exchange.proofs.Steps.{begun_has, begun_once, begun_within}
 use Rattle.h2_streams.specs.declared.live.StreamOutcome.TheVariants.{Over, Alive}
 use Rattle.h2_streams.specs.declared.live.Stream.{Stream}
 use Rattle.h2_streams.specs.Live.{replaced, without, with_outcome}
@@ -66,7 +66,7 @@ module _ (s : Set) (x : List Step) (f : Frame) (h : StandsFor s x) (sound : IsSo
             ∙ sym (added_is (is_live s.role x) (is_live s.role y) (stream_at s.limits x) (stream_at s.limits y) (λ id. refl) k others alive (begun s.role x) (not_begun e)) ∙ sym (list_of true e)
         by false e =
             ap (replaced k t) h.live_is ∙ ap (λ (u : Stream). replaced k u (map (stream_at s.limits x) (live s.role x))) same
-            ∙ sym (replaced_is (is_live s.role x) (is_live s.role y) (stream_at s.limits x) (stream_at s.limits y) (λ id. refl) k others (alive ∙ sym (left lives starts seen e)) (begun s.role x)) ∙ sym (old_list e)
+            ∙ sym (replaced_is (is_live s.role x) (is_live s.role y) (stream_at s.limits x) (stream_at s.limits y) (λ id. refl) k others (alive ∙ sym (left lives starts seen e)) (begun s.role x) (begun_once s.role x k)) ∙ sym (old_list e)
 
     pub unseen_list : (lives || starts) ≡ false → is_live s.role y k ≡ false → Target s.live
     unseen_list unseen dead =

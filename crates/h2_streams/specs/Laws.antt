@@ -28,7 +28,8 @@ BeginsNothing role x f = is_headers f ≡ true → (role ≡ Server) ⊎ (is_beg
 -- a frame of a header block, which begins no stream and ends none: CONTINUATION, and such HEADERS
 abbrev pub HeaderFramesChangeNothing : Type 0
 HeaderFramesChangeNothing =
-    (s : Set) (x : List Step) (f : Frame) → (is_headers f || is_continuation f) ≡ true → BeginsNothing s.role x f → ((b : Block) → completed (sent x) f ≡ Some b → b.last ≡ false) → StandsFor s x →
+    (s : Set) (x : List Step) (f : Frame) → (is_headers f || is_continuation f) ≡ true → BeginsNothing s.role x f →
+    ((b : Block) → completed (sent x) f ≡ Some b → b.last ≡ false) → StandsFor s x →
     StandsFor s (x ++ Sent f ∷ [])
 
 -- the code of a malformed header block, which is no longer refused for want of room, where it has this error otherwise

@@ -1,6 +1,6 @@
 -- The list of live streams.
-use Rattle.std.specs.Prelude.{◌≡◌, ℕ, ◌+◌, ◌<◌, ◌==◌, ◌&&◌, Bool, true, false, not, List, ◌++◌, length, map, filter, find, nat_lt, max, fold, [], ◌∷◌, Option, Some, None, if◌then◌else◌}
-use Rattle.std.specs.List.{list_any}
+use Rattle.std.specs.Prelude.{◌≡◌, ℕ, ◌+◌, ◌<◌, ◌==◌, ◌&&◌, Bool, true, false, not, List, ◌++◌, length, filter, find, nat_lt, max, fold, [], ◌∷◌, Option, Some, None, if◌then◌else◌}
+use Rattle.std.specs.List.{list_any, position_or_len}
 use Rattle.h2_exchange.specs.declared.role.Role.{Role}
 use Rattle.h2_exchange.specs.declared.role.Role.TheVariants.{Client, Server}
 use Rattle.h2_streams.specs.declared.live.StreamOutcome.{StreamOutcome}
@@ -10,8 +10,13 @@ use Rattle.h2_streams.specs.declared.live.Stream.{Stream}
 abbrev pub is_stream : ℕ → Stream → Bool
 is_stream id s = s.id == id
 
+-- how many streams stand before the one with this id, where it is live, and else how many are live
+abbrev pub place_of : ℕ → List Stream → ℕ
+place_of id live = position_or_len (is_stream id) live
+
 abbrev pub replaced : ℕ → Stream → List Stream → List Stream
-replaced id new live = map (λ s. if is_stream id s then new else s) live
+replaced id new [] = []
+replaced id new (s ∷ live) = if is_stream id s then new ∷ live else s ∷ replaced id new live
 
 abbrev pub without : ℕ → List Stream → List Stream
 without id live = filter (λ s. not (is_stream id s)) live

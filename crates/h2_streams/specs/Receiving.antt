@@ -15,9 +15,10 @@ use Rattle.h2_exchange.specs.Windows.{settings_in, setting}
 use Rattle.h2_streams.specs.declared.live.StreamOutcome.{StreamOutcome}
 use Rattle.h2_streams.specs.declared.live.StreamOutcome.TheVariants.{NoStream, Over, Alive}
 use Rattle.h2_streams.specs.declared.live.Stream.{Stream}
-use Rattle.h2_streams.specs.ConnectionErrors.{live_error_in}
-use Rattle.h2_streams.specs.Live.{with_outcome}
-use Rattle.h2_streams.specs.Set.{Set, at, new_stream}
+use Rattle.h2_streams.specs.declared.set.receive.SeenStream.{SeenStream}
+use Rattle.h2_streams.specs.ConnectionErrors.{frame_error_in, live_error_in}
+use Rattle.h2_streams.specs.Live.{place_of, with_outcome}
+use Rattle.h2_streams.specs.Set.{Set, at, has_head_in, new_stream}
 
 -- ---- header blocks
 
@@ -121,6 +122,25 @@ abbrev pub answer_by : ℕ → Option ErrorCode → Option ErrorCode → Result 
 answer_by id (Some why) fault = Err (Connection why)
 answer_by id None (Some why) = Err (OnStream id why)
 answer_by id None None = Ok tt
+
+-- the stream is live behind the frame
+abbrev pub is_alive : StreamOutcome → Bool
+is_alive NoStream = false
+is_alive Over = false
+is_alive (Alive stream) = true
+
+abbrev pub is_live_by : Option ErrorCode → Set → Frame → Bool
+is_live_by (Some why) s f = is_some (at (stream_of f) s)
+is_live_by None s f = is_alive (outcome_on s f (fault_in s f) (seen_in s f))
+
+-- what the frame meets on its stream, and whether that is live behind it
+abbrev pub stream_seen : Set → Frame → SeenStream
+stream_seen s f = record {
+  place = place_of (stream_of f) s.live;
+  was_live = is_some (at (stream_of f) s);
+  had_head = has_head_in (at (stream_of f) s);
+  is_live = is_live_by (frame_error_in s f) s f;
+}
 
 abbrev pub taken_by : Option ErrorCode → Set → Frame → Set
 taken_by (Some why) s f = s

@@ -27,7 +27,17 @@ at id s = find (is_stream id) s.live
 
 -- before anything was received or sent
 abbrev pub fresh : Role → H2Limits → Set
-fresh role limits = record { role = role; limits = limits; live = []; highest = 0; is_started = false; block = None; initial = 65535; send = 65535; receive = 65535 }
+fresh role limits = record {
+  role = role;
+  limits = limits;
+  live = [];
+  highest = 0;
+  is_started = false;
+  block = None;
+  initial = 65535;
+  send = 65535;
+  receive = 65535;
+}
 
 -- a stream as its HEADERS leave it; those of a client are its head
 abbrev pub new_stream : H2Limits → ℕ → Stream
@@ -85,6 +95,11 @@ credited_on id n s = credited_at id n s (at id s)
 abbrev pub receive_in : Option Stream → ℕ
 receive_in None = 0
 receive_in (Some stream) = stream.receive
+
+-- how many bytes are to be granted so that a live stream's window is whole again
+abbrev pub owed_in : H2Limits → Option Stream → ℕ
+owed_in limits None = 0
+owed_in limits (Some stream) = limits.window - stream.receive
 
 -- the peer has completed a head
 abbrev pub has_head_in : Option Stream → Bool

@@ -23,6 +23,10 @@ stream_by limits received sent id = record {
 abbrev pub stream_at : H2Limits → List Step → ℕ → Stream
 stream_at limits x id = stream_by limits (received x) (sent x) id
 
+-- how many bytes are to be granted so that the stream's window is whole again
+abbrev pub owed_on : H2Limits → List Step → ℕ → ℕ
+owed_on limits x id = limits.window - (stream_at limits x id).receive
+
 -- the open header block stands on the stream
 abbrev pub is_on : ℕ → Option Block → Bool
 is_on id None = false

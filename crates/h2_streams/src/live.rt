@@ -1,7 +1,8 @@
 //! The streams that are live, in the order of their ids.
-ghost use Rattle.std.specs.Prelude.{◌≡◌, ◌<◌, true, length, find, if◌then◌else◌};
+ghost use Rattle.std.specs.Prelude.{◌≡◌, ◌<◌, true, length, find, slice_get};
+ghost use Rattle.std.specs.List.{position};
 ghost use Rattle.std.specs.Vec.{vec_capacity, vec_len};
-ghost use Rattle.h2_streams.specs.Live.{is_stream, replaced, with_outcome, without};
+ghost use Rattle.h2_streams.specs.Live.{is_stream, place_of, replaced, with_outcome, without};
 ghost use Rattle.h2_streams.specs.Set.{new_stream};
 
 use h2_exchange::H2Limits;
@@ -44,26 +45,52 @@ impl Stream {
     }
 }
 
+/// The stream with this id.
 pub fn find(live: &[Stream], id: u32) -> Option<Stream>
     ensures { result ≡ find (is_stream id) live.now }
 {
     live.iter().copied().find(|stream| stream.id == id)
 }
 
-fn chosen(id: u32, new: Stream, old: Stream) -> Stream
-    ensures { result ≡ (if is_stream id old then new else old) }
+fn position(live: &[Stream], id: u32) -> Option<usize>
+    ensures { result ≡ position (is_stream id) live.now }
 {
-    if old.id == id { new } else { old }
+    live.iter().position(|stream| stream.id == id)
 }
 
-fn replace(live: &mut [Stream], id: u32, new: Stream)
-    ensures { live.new ≡ replaced id new live.old }
+/// How many streams stand before the one with this id; all of them where it isn't live.
+pub fn place_of(live: &[Stream], id: u32) -> usize
+    ensures { result ≡ place_of id live.now }
 {
-    for stream in live.iter_mut() {
-        *stream = chosen(id, new, *stream);
+    match position(live, id) {
+        Some(place) => place,
+        None => live.len(),
     }
 }
 
+/// The stream at this place.
+pub fn stream_at(live: &[Stream], place: usize) -> Option<Stream>
+    ensures { result ≡ slice_get live.now place }
+{
+    if place < live.len() {
+        let stream = &live[place];
+        Some(*stream)
+    } else {
+        None
+    }
+}
+
+/// Puts a stream in the place of the one with this id, which stands at this place.
+fn replace(live: &mut [Stream], place: usize, id: u32, new: Stream)
+    requires { place ≡ place_of id live.old }
+    ensures { live.new ≡ replaced id new live.old }
+{
+    if place < live.len() {
+        live[place] = new;
+    }
+}
+
+/// Leaves out the stream with this id.
 pub fn remove(live: &mut Vec<Stream>, id: u32)
     ensures items { live.new.items ≡ without id live.old.items }
     ensures capacity { vec_capacity live.new ≡ vec_capacity live.old }
@@ -76,12 +103,20 @@ pub fn put(live: &mut Vec<Stream>, id: u32, new: Stream)
     ensures items { live.new.items ≡ replaced id new live.old.items }
     ensures capacity { vec_capacity live.new ≡ vec_capacity live.old }
 {
-    replace(live.as_mut_slice(), id, new);
+    let place = place_of(live.as_slice(), id);
+    replace(live.as_mut_slice(), place, id, new);
 }
 
 /// Puts what becomes of a stream, or of a new one, which comes last.
-pub fn apply_outcome(live: &mut Vec<Stream>, is_new: bool, id: u32, outcome: StreamOutcome)
-    requires { is_new ≡ true → vec_len live.old < vec_capacity live.old }
+pub fn apply_outcome(
+    live: &mut Vec<Stream>,
+    is_new: bool,
+    place: usize,
+    id: u32,
+    outcome: StreamOutcome,
+)
+    requires has_room { is_new ≡ true → vec_len live.old < vec_capacity live.old }
+    requires place { place ≡ place_of id live.old.items }
     ensures items { live.new.items ≡ with_outcome is_new id outcome live.old.items }
     ensures capacity { vec_capacity live.new ≡ vec_capacity live.old }
 {
@@ -96,7 +131,7 @@ pub fn apply_outcome(live: &mut Vec<Stream>, is_new: bool, id: u32, outcome: Str
             if is_new {
                 live.push_reserved(stream);
             } else {
-                put(live, id, stream);
+                replace(live.as_mut_slice(), place, id, stream);
             }
         }
     }

@@ -4,16 +4,16 @@ ghost use Rattle.h2_frames.specs.declared.frame.Frame.{Frame};
 ghost use Rattle.h2_frames.specs.declared.frame.Frame.TheVariants.{Content, Headers, RstStream, WindowUpdate};
 ghost use Rattle.h2_frames.specs.declared.frame.FrameBody.{FrameBody};
 ghost use Rattle.h2_exchange.specs.declared.fault.SendFault.TheVariants.{IdsSpent, NotOpen};
-ghost use Rattle.h2_exchange.specs.Exchange.{Step, Sent, sent};
+ghost use Rattle.h2_exchange.specs.Exchange.{Step, Sent, received, sent};
 ghost use Rattle.h2_exchange.specs.Blocks.{Block, completed};
 ghost use Rattle.h2_exchange.specs.Frames.{stream_of, is_headers, is_continuation, has_end_stream, increment_of};
-ghost use Rattle.h2_exchange.specs.Streams.{highest, is_begun, is_live, is_open};
+ghost use Rattle.h2_exchange.specs.Streams.{highest, of_client, live, is_begun, is_live, is_open};
 ghost use Rattle.h2_exchange.specs.Windows as windows;
-ghost use Rattle.h2_streams.specs.Set.{Set, fresh, at, is_open_in, begun, next_id, dropped, finished, room_of, spent, credited, credited_on, receive_in, has_head_in};
-ghost use Rattle.h2_streams.specs.Stands.{StandsFor};
+ghost use Rattle.h2_streams.specs.Set.{Set, fresh, at, is_open_in, begun, next_id, dropped, finished, room_of, spent, credited, credited_on, receive_in, owed_in, has_head_in};
+ghost use Rattle.h2_streams.specs.Stands.{StandsFor, owed_on};
 
 mod judge;
-mod receive;
+pub mod receive;
 
 use crate::live::{self, Stream};
 use h2_exchange::{H2Limits, Role, SendFault};
@@ -67,6 +67,10 @@ impl Model for StreamSet {
 
 impl StreamSet {
     /// A set that has seen no frame.
+    ///
+    /// # Errors
+    ///
+    /// Where there is no memory.
     pub fn new(alloc: Global, role: Role, limits: H2Limits) -> Result<StreamSet, AllocError>
         ensures exact { IfOk result (λ set. set ≡ fresh role limits) }
         ensures stands { IfOk result (λ set. StandsFor set []) }
@@ -121,6 +125,13 @@ impl StreamSet {
 
     /// The greatest id that was begun, or 0.
     pub fn highest(&self) -> u32
+        ensures exact { result ≡ self.now.highest }
+        ensures stands { (x : List Step) → StandsFor self.now x → result ≡ highest (of_client self.now.role x) }
+    {
+        self.highest_id()
+    }
+
+    fn highest_id(&self) -> u32
         ensures { result ≡ self.now.highest }
     {
         self.highest
@@ -136,22 +147,84 @@ impl StreamSet {
         }
     }
 
-    /// What is to be granted so that the connection's window is whole again.
+    /// How many bytes are to be granted so that the connection's window is whole again.
     pub fn owed_credit(&self) -> u32
+        ensures exact { result ≡ self.now.limits.window - self.now.receive }
+        ensures stands { (x : List Step) → StandsFor self.now x →
+            result ≡ self.now.limits.window + windows.spent (received x) - (65535 + windows.granted_on 0 (sent x)) }
+    {
+        self.owed()
+    }
+
+    fn owed(&self) -> u32
         ensures { result ≡ self.now.limits.window - self.now.receive }
     {
         self.limits.window.saturating_sub(self.receive)
     }
 
+    /// How many bytes are to be granted so that the stream's window is whole again; 0 where it isn't live.
+    pub fn owed_credit_on(&self, stream: u32) -> u32
+        ensures exact { result ≡ owed_in self.now.limits (at stream self.now) }
+        ensures stands { (x : List Step) → StandsFor self.now x → is_live self.now.role x stream ≡ true →
+            result ≡ owed_on self.now.limits x stream }
+    {
+        self.owed_on(stream)
+    }
+
+    fn owed_on(&self, stream: u32) -> u32
+        ensures { result ≡ owed_in self.now.limits (at stream self.now) }
+    {
+        match live::find(self.live.as_slice(), stream) {
+            Some(found) => self.limits.window.saturating_sub(found.receive),
+            None => 0,
+        }
+    }
+
     /// How many streams are live.
     pub fn count(&self) -> usize
+        ensures exact { result ≡ length self.now.live }
+        ensures stands { (x : List Step) → StandsFor self.now x → result ≡ length (live self.now.role x) }
+    {
+        self.live_count()
+    }
+
+    fn live_count(&self) -> usize
         ensures { result ≡ length self.now.live }
     {
         self.live.len()
     }
 
-    /// The stream at this place among those that are live, and what is to be granted so that its window is whole again.
+    /// The stream at this place among those that are live, in the order of their ids.
+    pub fn id_at(&self, place: usize) -> Option<u32>
+        ensures exact { result ≡ option_map (λ s. s.id) (slice_get self.now.live place) }
+        ensures stands { (x : List Step) → StandsFor self.now x → result ≡ slice_get (live self.now.role x) place }
+    {
+        self.live_id(place)
+    }
+
+    fn live_id(&self, place: usize) -> Option<u32>
+        ensures { result ≡ option_map (λ s. s.id) (slice_get self.now.live place) }
+    {
+        let live = self.live.as_slice();
+        if place < live.len() {
+            let stream = &live[place];
+            Some(stream.id)
+        } else {
+            None
+        }
+    }
+
+    /// The stream at this place among those that are live, and how many bytes are to be granted so that its window is
+    /// whole again.
     pub fn owed_credit_at(&self, place: usize) -> Option<(u32, u32)>
+        ensures exact { result ≡ option_map (λ s. (s.id, self.now.limits.window - s.receive)) (slice_get self.now.live place) }
+        ensures stands { (x : List Step) → StandsFor self.now x →
+            result ≡ option_map (λ id. (id, owed_on self.now.limits x id)) (slice_get (live self.now.role x) place) }
+    {
+        self.owed_at(place)
+    }
+
+    fn owed_at(&self, place: usize) -> Option<(u32, u32)>
         ensures { result ≡ option_map (λ s. (s.id, self.now.limits.window - s.receive)) (slice_get self.now.live place) }
     {
         let live = self.live.as_slice();
@@ -163,7 +236,11 @@ impl StreamSet {
         }
     }
 
-    /// Begins the next stream of this side, which is the client's.
+    /// Begins the next stream of this side, which is the client's, and gives its id.
+    ///
+    /// # Errors
+    ///
+    /// `IdsSpent` behind id 2,147,483,647, and `NoMemory`. Nothing is begun then.
     pub fn begin(&mut self) -> Result<u32, SendFault>
         requires { self.old.role ≡ Client }
         ensures exact { IfOk result (λ id. (id ≡ next_id self.old.highest) × (self.new ≡ begun id self.old)) }

@@ -1,5 +1,5 @@
 //! What a received frame does to the streams.
-ghost use Rattle.std.specs.Prelude.{◌≡◌, ℕ, ◌+◌, ◌<◌, ◌^◌, ◌==◌, true, false, List, [], ◌∷◌, ◌++◌, None, option_map, Err, IfOk, if◌then◌else◌};
+ghost use Rattle.std.specs.Prelude.{◌≡◌, ℕ, ◌+◌, ◌<◌, ◌^◌, ◌==◌, true, false, List, [], ◌∷◌, ◌++◌, None, option_map, is_some, Err, IfOk, if◌then◌else◌};
 ghost use Rattle.h2_frames.specs.declared.code.ErrorCode.{ErrorCode};
 ghost use Rattle.h2_frames.specs.declared.frame.Frame.TheVariants.{RstStream};
 ghost use Rattle.h2_frames.specs.declared.frame.FrameBody.{FrameBody};
@@ -10,7 +10,9 @@ ghost use Rattle.h2_exchange.specs.Rules.{frame_error};
 ghost use Rattle.h2_exchange.specs.StreamErrors.{stream_error_of};
 ghost use Rattle.h2_exchange.specs.Windows.{setting, settings_in};
 ghost use Rattle.h2_streams.specs.ConnectionErrors.{frame_error_in};
+ghost use Rattle.h2_streams.specs.Live.{place_of};
 ghost use Rattle.h2_streams.specs.Receiving as hear;
+ghost use Rattle.h2_streams.specs.Set.{at, has_head_in};
 ghost use Rattle.h2_streams.specs.Stands.{StandsFor};
 
 use super::{OpenBlock, StreamSet};
@@ -111,7 +113,60 @@ fn highest_behind(highest: u32, is_new: bool, id: u32) -> u32
     if is_new { id } else { highest }
 }
 
+/// What a received frame meets on its stream, and leaves of it.
+#[derive(Clone, Copy, Debug)]
+pub struct SeenStream {
+    /// How many live streams stood before its own. Where that wasn't live, how many were live: a stream that the frame
+    /// begins comes behind them.
+    pub place: usize,
+    /// Whether its stream was live before the frame.
+    pub was_live: bool,
+    /// Whether the peer had completed a head on it.
+    pub had_head: bool,
+    /// Whether its stream is live behind the frame.
+    pub is_live: bool,
+}
+
+fn has_head(met: Option<Stream>) -> bool
+    ensures { result ≡ has_head_in met }
+{
+    match met {
+        Some(stream) => stream.has_head,
+        None => false,
+    }
+}
+
+fn is_alive(outcome: StreamOutcome) -> bool
+    ensures { result ≡ hear.is_alive outcome }
+{
+    match outcome {
+        StreamOutcome::NoStream => false,
+        StreamOutcome::Over => false,
+        StreamOutcome::Alive(_) => true,
+    }
+}
+
 impl StreamSet {
+    /// Takes a frame that was received, as [`StreamSet::on_frame`] does, and says what it met on its stream.
+    ///
+    /// The content of a header block comes before the error of its stream: where the frame completes one, the caller
+    /// decodes it also behind `Stream`, since what it breaks ends the connection.
+    pub fn on_frame_seen(&mut self, frame: &Frame) -> (Result<(), StreamFault>, SeenStream)
+        ensures exact { result.0 ≡ hear.answer_by (say.stream_of frame.now) (frame_error_in self.old frame.now) (hear.fault_in self.old frame.now) }
+        ensures seen { result.1 ≡ hear.stream_seen self.old frame.now }
+        ensures live { result.1.is_live ≡ is_some (at (say.stream_of frame.now) self.new) }
+        ensures set { self.new ≡ hear.taken_by (frame_error_in self.old frame.now) self.old frame.now }
+        ensures kept { (self.new.role ≡ self.old.role) × (self.new.limits ≡ self.old.limits) }
+        ensures answer { (x : List Step) → StandsFor self.old x → result.0 ≡ hear.answer_by (say.stream_of frame.now)
+            (frame_error self.old.role x frame.now) (stream_error_of self.old.role self.old.limits x frame.now false) }
+        ensures taken { IfOk result.0 (λ _. (x : List Step) → StandsFor self.old x → StandsFor self.new (x ++ Received frame.now ∷ [])) }
+        ensures failed { (id : ℕ) (why : ErrorCode) → result.0 ≡ Err (OnStream id why) → (x : List Step) (b : FrameBody) → StandsFor self.old x →
+            b.stream ≡ id → StandsFor self.new (x ++ Received frame.now ∷ Sent (RstStream b) ∷ []) }
+        ensures refused { (why : ErrorCode) → result.0 ≡ Err (Connection why) → self.new ≡ self.old }
+    {
+        self.hear(frame)
+    }
+
     /// Takes a frame that was received. It takes no memory.
     ///
     /// The fields of a header block are judged by the caller: where they are malformed it resets the stream, with the code
@@ -125,34 +180,36 @@ impl StreamSet {
         ensures exact { result ≡ hear.answer_by (say.stream_of frame.now) (frame_error_in self.old frame.now) (hear.fault_in self.old frame.now) }
         ensures set { self.new ≡ hear.taken_by (frame_error_in self.old frame.now) self.old frame.now }
         ensures kept { (self.new.role ≡ self.old.role) × (self.new.limits ≡ self.old.limits) }
-        ensures answer { (x : List Step) → StandsFor self.old x →
-            result ≡ hear.answer_by (say.stream_of frame.now) (frame_error self.old.role x frame.now) (stream_error_of self.old.role self.old.limits x frame.now false) }
+        ensures answer { (x : List Step) → StandsFor self.old x → result ≡ hear.answer_by (say.stream_of frame.now)
+            (frame_error self.old.role x frame.now) (stream_error_of self.old.role self.old.limits x frame.now false) }
         ensures taken { IfOk result (λ _. (x : List Step) → StandsFor self.old x → StandsFor self.new (x ++ Received frame.now ∷ [])) }
         ensures failed { (id : ℕ) (why : ErrorCode) → result ≡ Err (OnStream id why) → (x : List Step) (b : FrameBody) → StandsFor self.old x →
             b.stream ≡ id → StandsFor self.new (x ++ Received frame.now ∷ Sent (RstStream b) ∷ []) }
         ensures refused { (why : ErrorCode) → result ≡ Err (Connection why) → self.new ≡ self.old }
     {
-        self.hear(frame)
+        let (answer, _) = self.on_frame_seen(frame);
+        answer
     }
 
-    fn is_new(&self, frame: &Frame) -> bool
+    fn is_new(&self, frame: &Frame, met: Option<Stream>) -> bool
+        requires { met ≡ at (say.stream_of frame.now) self.now }
         ensures { result ≡ hear.is_new_in self.now frame.now }
     {
         let id = frame.body().stream;
         let is_above = rules::is_headers(frame) && id % 2 == 1 && self.highest < id;
-        !rules::is_client(self.role) && is_above && !self.has(id)
+        !rules::is_client(self.role) && is_above && !met.is_some()
     }
 
     /// The live stream of a frame, or the one that it begins.
-    fn seen(&self, frame: &Frame, is_new: bool) -> Option<Stream>
-        requires { is_new ≡ hear.is_new_in self.now frame.now }
+    fn seen(&self, frame: &Frame, is_new: bool, met: Option<Stream>) -> Option<Stream>
+        requires is_new { is_new ≡ hear.is_new_in self.now frame.now }
+        requires met { met ≡ at (say.stream_of frame.now) self.now }
         ensures { result ≡ hear.seen_in self.now frame.now }
     {
-        let id = frame.body().stream;
         if is_new {
-            Some(Stream::new(self.limits, id))
+            Some(Stream::new(self.limits, frame.body().stream))
         } else {
-            live::find(self.live.as_slice(), id)
+            met
         }
     }
 
@@ -248,40 +305,76 @@ impl StreamSet {
         }
     }
 
-    /// Takes a frame that is no connection error.
+    /// Takes a frame that is no connection error, whose stream stands at this place, and says whether that is live then.
     #[tactic(auto, using(crate::proofs::Judged::four_long))]
-    fn take(&mut self, frame: &Frame, is_new: bool, seen: Option<Stream>, fault: Option<ErrorCode>)
+    fn take(
+        &mut self,
+        frame: &Frame,
+        is_new: bool,
+        place: usize,
+        seen: Option<Stream>,
+        fault: Option<ErrorCode>,
+    ) -> bool
         requires sound { frame_error_in self.old frame.now ≡ None }
+        requires place { place ≡ place_of (say.stream_of frame.now) self.old.live }
         requires is_new { is_new ≡ hear.is_new_in self.old frame.now }
         requires seen { seen ≡ hear.seen_in self.old frame.now }
         requires fault { fault ≡ hear.fault_on self.old frame.now seen }
-        ensures { self.new ≡ hear.taken self.old frame.now }
+        ensures alive { result ≡ hear.is_alive (hear.outcome_on self.old frame.now fault seen) }
+        ensures set { self.new ≡ hear.taken self.old frame.now }
     {
         let id = frame.body().stream;
         let outcome = self.outcome(frame, fault, seen);
-        live::apply_outcome(&mut self.live, is_new, id, outcome);
+        live::apply_outcome(&mut self.live, is_new, place, id, outcome);
         self.highest = highest_behind(self.highest, is_new, id);
         self.is_started = true;
         self.block = left_open(self.block, frame);
         self.initial = initial_behind(self.initial, frame);
         self.send = send_behind(self.send, frame);
         self.receive = self.receive.saturating_sub(counted(frame));
+        is_alive(outcome)
     }
 
-    fn hear(&mut self, frame: &Frame) -> Result<(), StreamFault>
-        ensures answer { result ≡ hear.answer_by (say.stream_of frame.now) (frame_error_in self.old frame.now) (hear.fault_in self.old frame.now) }
+    /// The place of a stream among those that are live.
+    fn place_of(&self, id: u32) -> usize
+        ensures { result ≡ place_of id self.now.live }
+    {
+        live::place_of(self.live.as_slice(), id)
+    }
+
+    /// The live stream with this id, which stands at this place.
+    fn met(&self, id: u32, place: usize) -> Option<Stream>
+        requires { place ≡ place_of id self.now.live }
+        ensures { result ≡ at id self.now }
+    {
+        live::stream_at(self.live.as_slice(), place)
+    }
+
+    #[tactic(auto, using(crate::proofs::Sound::four))]
+    fn hear(&mut self, frame: &Frame) -> (Result<(), StreamFault>, SeenStream)
+        ensures answer { result.0 ≡ hear.answer_by (say.stream_of frame.now) (frame_error_in self.old frame.now) (hear.fault_in self.old frame.now) }
+        ensures seen { result.1 ≡ hear.stream_seen self.old frame.now }
         ensures set { self.new ≡ hear.taken_by (frame_error_in self.old frame.now) self.old frame.now }
     {
+        let id = frame.body().stream;
+        let place = self.place_of(id);
+        let met = self.met(id, place);
+        let mut seen_stream = SeenStream {
+            place,
+            was_live: met.is_some(),
+            had_head: has_head(met),
+            is_live: met.is_some(),
+        };
         if let Some(code) = self.frame_error(frame) {
-            return Err(StreamFault::Connection(code));
+            return (Err(StreamFault::Connection(code)), seen_stream);
         }
-        let is_new = self.is_new(frame);
-        let seen = self.seen(frame, is_new);
+        let is_new = self.is_new(frame, met);
+        let seen = self.seen(frame, is_new, met);
         let fault = self.fault(frame, is_new, seen);
-        self.take(frame, is_new, seen, fault);
+        seen_stream.is_live = self.take(frame, is_new, place, seen, fault);
         match fault {
-            Some(code) => Err(StreamFault::Stream(frame.body().stream, code)),
-            None => Ok(()),
+            Some(code) => (Err(StreamFault::Stream(id, code)), seen_stream),
+            None => (Ok(()), seen_stream),
         }
     }
 }
