@@ -2,6 +2,14 @@
 //!
 //! An id is 128 bits. The highest id never falls. The primary is the session whose announcement was, when it
 //! came, at least as high as every earlier one, as long as that session is live and announces nothing else.
+//!
+//! Begin with `Election::new`, then `announce`. The contract is `specs/ElectionState`: what an election stands for.
+//!
+//! ```ignore
+//! let mut election = Election::new();
+//! election.announce(0, 5);
+//! election.announce(1, 5); // among equal ids the latest: `election.primary()` is session 1
+//! ```
 #![tactic(auto)]
 
 ghost use Rattle.std.specs.Prelude.{◌≡◌, ◌≢◌, true, max, List, [], ◌∷◌};

@@ -1,7 +1,7 @@
 -- A search from the front, place by place, for the first job that may start.
-use Rattle.std.proofs.Common.{◌≡◌, ℕ, zero, suc, ◌+◌, Bool, true, false, List, [], ◌∷◌, Some, None, length, take, drop, get_or, ◌<◌, refl, sym, ap, ◌∙◌, arith, add-one}
-use Rattle.std.specs.Prelude.{slice_get, cond, not, ◌&&◌, ◌||◌, nat_lt, nat_eq}
-use Rattle.std.specs.List.{position, position_or_len, prefix_len, list_any, list_all}
+use Rattle.std.proofs.Common.{◌≡◌, ℕ, zero, suc, ◌+◌, Bool, true, false, List, [], ◌∷◌, Some, None, length, take, drop, get_or, ◌<◌, refl, sym, ap, ◌∙◌, arith}
+use Rattle.std.specs.Prelude.{slice_get, cond, not, ◌&&◌, ◌||◌, nat_lt}
+use Rattle.std.specs.List.{position, position_or_len, list_any, list_all}
 use Rattle.std.proofs.lemmas.Bool.Decides.{nat_tests}
 use Rattle.std.proofs.Math.Seq.{take-length}
 use Rattle.std.proofs.lemmas.List.Folds.{list_any_more}

@@ -39,14 +39,18 @@ AfterTake worker now before after =
 
 abbrev pub AfterReport : JobNumber → Verdict → ℤ → BoardState → BoardState → Type 0
 AfterReport number said now before after =
-    BoardStateIs after before.workers (undone_after_report before.undone (out_task number before.undone)) (fib_after_report said before.fib (out_task number before.undone))
+    BoardStateIs after before.workers (undone_after_report before.undone (out_task number before.undone))
+    (fib_after_report said before.fib (out_task number before.undone))
     (λ session. due_for before.due session ++ reported_results session said now (out_task number before.undone))
 
 abbrev pub AfterCollect : ℕ → BoardState → BoardState → Type 0
-AfterCollect session before after = BoardStateIs after before.workers before.undone before.fib (λ other. due_after_collect session other (due_for before.due other))
+AfterCollect session before after =
+    BoardStateIs after before.workers before.undone before.fib (λ other. due_after_collect session other (due_for before.due other))
 
 abbrev pub AfterForget : ℕ → BoardState → BoardState → Type 0
-AfterForget session before after = BoardStateIs after before.workers (map (unwanted session) before.undone) before.fib (λ other. due_after_forget session other (due_for before.due other))
+AfterForget session before after =
+    BoardStateIs after before.workers (map (unwanted session) before.undone) before.fib
+    (λ other. due_after_forget session other (due_for before.due other))
 
 -- an empty board stands for no events
 abbrev pub EmptyStands : Type 0
@@ -93,7 +97,8 @@ abbrev pub FlushesFollow : Config → Type 0
 FlushesFollow config =
     (past : List Event) (before after : BoardState) (by : FlushBy) (which : Which) (now : ℤ) (remain : Bool)
     → IsLawful config (event (Flush by which now) (Flushed remain) ∷ past)
-    → StandsFor before past → BoardStateIs after before.workers (before.undone ++ made_by (event (Flush by which now) (Flushed remain)) past) before.fib (due_for before.due)
+    → StandsFor before past
+    → BoardStateIs after before.workers (before.undone ++ made_by (event (Flush by which now) (Flushed remain)) past) before.fib (due_for before.due)
     → StandsFor after (event (Flush by which now) (Flushed remain) ∷ past)
 
 -- a session is forgotten, and the jobs that remove what goes with it are added
@@ -102,7 +107,8 @@ LeavesFollow config =
     (past : List Event) (before after : BoardState) (session : ℕ)
     → IsLawful config (event (Leave session) Left ∷ past)
     → StandsFor before past
-    → BoardStateIs after before.workers (map (unwanted session) before.undone ++ made_by (event (Leave session) Left) past) before.fib (λ other. due_after_forget session other (due_for before.due other))
+    → BoardStateIs after before.workers (map (unwanted session) before.undone ++ made_by (event (Leave session) Left) past) before.fib
+    (λ other. due_after_forget session other (due_for before.due other))
     → StandsFor after (event (Leave session) Left ∷ past)
 
 -- no entry goes with it

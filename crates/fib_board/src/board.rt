@@ -20,6 +20,7 @@ use table_model::{Batch, Job, JobNumber, NewJob, Verdict, Work};
 /// What a worker that asks is answered.
 #[derive(Drop)]
 pub enum Given {
+    /// The job is out.
     Work(Job),
     /// The job can't be done, and is done as failed.
     Skipped(JobNumber),
@@ -55,7 +56,8 @@ impl Model for Board {
       spare = vec_len b.spare;
     } };
 
-    ghost invariant = { λ b. (0 < b.workers) × HasRoom b.jobs.items b.due.items (vec_len b.jobs) (vec_len b.spare) (vec_capacity b.jobs) (vec_len b.due) (vec_capacity b.due) b.fib.spare b.made };
+    ghost invariant = { λ b. (0 < b.workers) × HasRoom b.jobs.items b.due.items (vec_len b.jobs) (vec_len b.spare) (vec_capacity b.jobs)
+        (vec_len b.due) (vec_capacity b.due) b.fib.spare b.made };
 }
 
 impl Board {

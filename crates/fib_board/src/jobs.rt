@@ -18,7 +18,9 @@ fn is_blocked(earlier: &[PendingJob], pending_job: &PendingJob) -> bool
 // Whether the job is the worker's, waits, and none of these blocks it.
 fn may_start(earlier: &[PendingJob], pending_job: &PendingJob, workers: u32, worker: u32) -> bool
     requires { 0 < workers }
-    ensures { result ≡ (history.on_shard workers worker pending_job.now.task && history.is_waiting pending_job.now.outcome && not (history.is_blocked earlier.now pending_job.now.task)) }
+    ensures { result
+        ≡ (history.on_shard workers worker pending_job.now.task && history.is_waiting pending_job.now.outcome
+        && not (history.is_blocked earlier.now pending_job.now.task)) }
 {
     pending_job.is_on(workers, worker)
         && pending_job.is_waiting()

@@ -42,10 +42,15 @@ impl Model for PendingJob {
 /// What is left of a job that is done.
 #[derive(Drop)]
 pub struct Ended {
+    /// The operation's id.
     pub id: u64,
+    /// The session of that operation.
     pub owner: Option<u64>,
+    /// Whether the owner wants the result.
     pub wants: bool,
+    /// What the forwarding table gets.
     pub work: Work,
+    /// The place that was made for the result.
     pub place: ResultNode,
 }
 
@@ -76,12 +81,14 @@ impl PendingJob {
         }
     }
 
+    /// What names the job.
     pub fn number(&self) -> JobNumber
         ensures { result ≡ self.now.task.job.number }
     {
         self.number
     }
 
+    /// What the forwarding table will get.
     pub fn work(&self) -> &Work
         ensures { result.now ≡ self.now.task.job.work }
     {
@@ -98,18 +105,21 @@ impl PendingJob {
         }
     }
 
+    /// Whether a worker has it.
     pub fn is_out(&self) -> bool
         ensures { result ≡ history.is_out self.now.outcome }
     {
         self.given.is_none()
     }
 
+    /// Whether no worker has taken it.
     pub fn is_waiting(&self) -> bool
         ensures { result ≡ history.is_waiting self.now.outcome }
     {
         self.given.is_some()
     }
 
+    /// Whether it waits or is out.
     pub fn is_undone(&self) -> bool
         ensures { result ≡ history.is_undone self.now.outcome }
     {
@@ -204,11 +214,14 @@ impl PendingJob {
 
     /// Whether the other job has to wait for this one.
     pub fn blocks(&self, other: &PendingJob) -> bool
-        ensures { result ≡ (history.is_undone self.now.outcome && history.number_lt self.now.task.job.number other.now.task.job.number && history.conflict self.now.task other.now.task) }
+        ensures { result
+            ≡ (history.is_undone self.now.outcome && history.number_lt self.now.task.job.number other.now.task.job.number
+            && history.conflict self.now.task other.now.task) }
     {
         self.is_undone() && is_less(self.number, other.number) && self.conflicts(other)
     }
 
+    /// Whether the number is the job's.
     pub fn has_number(&self, number: JobNumber) -> bool
         ensures { result ≡ has_number number self.now }
     {

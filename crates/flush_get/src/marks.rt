@@ -80,7 +80,8 @@ impl Marks {
     pub(crate) fn pass(&mut self, store: &Store) -> bool
         requires values { length self.old.values ≡ length store.now.entries }
         requires room { length store.now.entries ≤ self.old.room }
-        ensures values { (marked : Entry → Bool) → self.old.values ≡ map marked store.now.entries → self.new.values ≡ map (marking.marked_after_pass marked store.now.entries) store.now.entries }
+        ensures values { (marked : Entry → Bool) → self.old.values ≡ map marked store.now.entries
+            → self.new.values ≡ map (marking.marked_after_pass marked store.now.entries) store.now.entries }
         ensures settled { result ≡ false → self.new.values ≡ self.old.values }
         ensures room { self.new.room ≡ self.old.room }
     {

@@ -50,7 +50,8 @@ fn is_referenced(store: &Store, marks: &[bool], key: &Key) -> bool
 fn is_reached(store: &Store, marks: &[bool], n: u64) -> bool
     requires len { length marks.now ≡ length store.now.entries }
     requires place { n < length store.now.entries }
-    ensures { (marked : Entry → Bool) (e : Entry) → marks.now ≡ map marked store.now.entries → slice_get store.now.entries n ≡ Some e → result ≡ marking.marked_after_pass marked store.now.entries e }
+    ensures { (marked : Entry → Bool) (e : Entry) → marks.now ≡ map marked store.now.entries
+        → slice_get store.now.entries n ≡ Some e → result ≡ marking.marked_after_pass marked store.now.entries e }
 {
     marks[n as usize] || is_referenced(store, marks, &store.at(n).key)
 }
@@ -59,7 +60,8 @@ fn is_reached(store: &Store, marks: &[bool], n: u64) -> bool
 pub(crate) fn mark_referenced(store: &Store, before: &[bool], after: &mut Vec<bool>) -> bool
     requires before { length before.now ≡ length store.now.entries }
     requires room { length store.now.entries ≤ vec_capacity after.old }
-    ensures items { (marked : Entry → Bool) → before.now ≡ map marked store.now.entries → after.new.items ≡ map (marking.marked_after_pass marked store.now.entries) store.now.entries }
+    ensures items { (marked : Entry → Bool) → before.now ≡ map marked store.now.entries
+        → after.new.items ≡ map (marking.marked_after_pass marked store.now.entries) store.now.entries }
     ensures settled { result ≡ false → after.new.items ≡ before.now }
     ensures capacity { vec_capacity after.old ≤ vec_capacity after.new }
 {

@@ -207,7 +207,9 @@ fn table_from(
     table: Vec<Entry>,
     board: &[TrackedTask],
 ) -> Result<Vec<Entry>, AllocError>
-    ensures { IfOk result (λ after. after.items ≡ fold (λ table tracked. history.effect table tracked.task.job.work) table.items (filter (λ tracked. history.is_programmed tracked.outcome) board.now)) }
+    ensures { IfOk result (λ after. after.items
+        ≡ fold (λ table tracked. history.effect table tracked.task.job.work) table.items
+        (filter (λ tracked. history.is_programmed tracked.outcome) board.now)) }
 {
     match board {
         [] => Ok(table),
@@ -270,7 +272,9 @@ fn conflict(alloc: Global, a: &Task, b: &Task) -> Result<bool, AllocError>
 
 // Whether the slot's job is earlier, undone and in conflict.
 fn blocks(alloc: Global, tracked: &TrackedTask, task: &Task) -> Result<bool, AllocError>
-    ensures { IfOk result (λ so. so ≡ (history.is_undone tracked.now.outcome && history.number_lt tracked.now.task.job.number task.now.job.number && history.conflict tracked.now.task task.now)) }
+    ensures { IfOk result (λ so. so
+        ≡ (history.is_undone tracked.now.outcome && history.number_lt tracked.now.task.job.number task.now.job.number
+        && history.conflict tracked.now.task task.now)) }
 {
     let against = conflict(alloc, &tracked.task, task)?;
     Ok(is_undone(tracked.outcome) && number_lt(tracked.task.job.number, task.job.number) && against)
@@ -341,7 +345,8 @@ fn is_next(
     worker: u32,
     tracked: &TrackedTask,
 ) -> Result<bool, AllocError>
-    ensures { IfOk result (λ next. next ≡ (history.on_shard workers worker tracked.now.task && history.is_waiting tracked.now.outcome && not (history.is_blocked board.now tracked.now.task))) }
+    ensures { IfOk result (λ next. next
+        ≡ (history.on_shard workers worker tracked.now.task && history.is_waiting tracked.now.outcome && not (history.is_blocked board.now tracked.now.task))) }
 {
     let blocked = is_blocked(alloc, board, &tracked.task)?;
     Ok(on_shard(workers, worker, &tracked.task) && is_waiting(tracked.outcome) && !blocked)
@@ -355,7 +360,9 @@ fn next_among<'a>(
     worker: u32,
     rest: &'a [TrackedTask],
 ) -> Result<Option<&'a TrackedTask>, AllocError>
-    ensures { IfOk result (λ next. option_copied next ≡ find (λ tracked. history.on_shard workers worker tracked.task && history.is_waiting tracked.outcome && not (history.is_blocked board.now tracked.task)) rest.now) }
+    ensures { IfOk result (λ next. option_copied next
+        ≡ find (λ tracked. history.on_shard workers worker tracked.task && history.is_waiting tracked.outcome
+        && not (history.is_blocked board.now tracked.task)) rest.now) }
 {
     match rest {
         [] => Ok(None),

@@ -7,7 +7,9 @@ use table_model::{Command, Reply};
 /// A command and its reply.
 #[derive(Drop)]
 pub struct Event {
+    /// What was asked.
     pub command: Command,
+    /// What was answered.
     pub reply: Reply,
 }
 

@@ -1,5 +1,13 @@
 //! The definitions of the table as a program: plain and slow, over lists, for tests and for reading. Every function
 //! computes one definition of a history, and its contract says that it does.
+//!
+//! Begin with `run_commands`, or `reply_of` for one more command. The contract is `reply_to` of `table_model`'s
+//! `specs/Reply`.
+//!
+//! ```ignore
+//! let history = run_commands(alloc, config, commands)?; // the newest event first
+//! let reply = reply_of(alloc, config, history.as_slice(), &Command::Halt)?; // `Reply::HaltDone`
+//! ```
 #![tactic(auto)]
 
 mod board;

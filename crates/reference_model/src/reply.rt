@@ -161,7 +161,8 @@ fn reply_flush(
     by: FlushBy,
     which: Which,
 ) -> Result<Reply, AllocError>
-    ensures { IfOk result (λ reply. reply ≡ (if history.may_flush past.now by then Reply.Flushed (remains (rib past.now) which) else Reply.FlushRefused (highest past.now))) }
+    ensures { IfOk result (λ reply. reply
+        ≡ (if history.may_flush past.now by then Reply.Flushed (remains (rib past.now) which) else Reply.FlushRefused (highest past.now))) }
 {
     if may_flush(alloc, past, by)? {
         let table = rib(alloc, past)?;

@@ -50,7 +50,12 @@ fn task_of(number: JobNumber, made: &[Task]) -> Option<&Task>
 }
 
 fn result_of(session: u64, outcome: JobOutcome, now: i64, task: &Task) -> Option<FibResult>
-    ensures { result ≡ (if history.wanted_by session task.now then Some (record { id = task.now.id; failed = history.failure task.now (outcome_value outcome); now = now }) else None) }
+    ensures { result
+        ≡ (if history.wanted_by session task.now then Some (record {
+          id = task.now.id;
+          failed = history.failure task.now (outcome_value outcome);
+          now = now;
+        }) else None) }
 {
     if wanted_by(session, task) {
         Some(FibResult {

@@ -18,7 +18,8 @@ params_in session session_records = option_and_then (λ session_record. session_
 -- the parameters of another session that differ from these
 abbrev pub differing_in : ℕ → Params → List SessionRecord → Option Params
 differing_in session params session_records =
-    find (λ other. not (same_params params other)) (filter_map (λ session_record. session_record.params) (filter (λ session_record. not (is_of session session_record)) session_records))
+    find (λ other. not (same_params params other))
+    (filter_map (λ session_record. session_record.params) (filter (λ session_record. not (is_of session session_record)) session_records))
 
 abbrev pub session_record_with : ℕ → Option Params → SessionRecord → SessionRecord
 session_record_with session params session_record = if is_of session session_record then record { session = session; params = params } else session_record

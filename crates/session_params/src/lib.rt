@@ -1,6 +1,13 @@
 //! The sessions that are live, and the parameters of each (gRIBI, SessionParameters).
 //!
-//! A session sets its parameters once. All live sessions that have set theirs have the same ones.
+//! A session sets its parameters once. All live sessions that have set theirs have the same ones. Begin with
+//! `ParamBook::new`, and `enter` each session before it sets any. The contract is `specs/Book`: what a book stands for.
+//!
+//! ```ignore
+//! let mut book = ParamBook::new(alloc);
+//! book.enter(0)?;
+//! let end = book.set(0, asked); // `SetEnd::Set`, where `asked` is supported: no other session differs.
+//! ```
 #![tactic(auto)]
 
 ghost use Rattle.std.specs.Prelude.{◌≡◌, true, ◌++◌, ◌∷◌, [], List, length, not, filter, find, OnOk, OnErr, IsTrue, Some, None, if◌then◌else◌};
@@ -18,6 +25,7 @@ pub use table_model::{AckType, AskedParams, Params, Persistence, Redundancy};
 /// How a request for parameters ended. Nothing changed unless they were set.
 #[derive(Clone, Copy, Debug, PartialEq, Eq)]
 pub enum SetEnd {
+    /// They are accepted.
     Set,
     /// They aren't those of a single primary, or have a number that isn't in the numbering.
     Unsupported,
@@ -30,7 +38,9 @@ pub enum SetEnd {
 /// A session, and the parameters that were accepted of it, if any.
 #[derive(Clone, Copy, Debug, PartialEq, Eq)]
 pub struct SessionRecord {
+    /// The position of its `Begin`.
     pub session: u64,
+    /// None until the session has set them.
     pub params: Option<Params>,
 }
 
@@ -64,7 +74,8 @@ impl ParamBook {
     pub fn enter(&mut self, session: u64) -> Result<(), AllocError>
         ensures ok { OnOk result (self.new ≡ self.old ++ record { session = session; params = None } ∷ []) }
         ensures err { OnErr result (self.new ≡ self.old) }
-        ensures stands { OnOk result ((past : List Event) → StandsFor self.old past → session ≡ length past → history.params_of past session ≡ None → StandsFor self.new (began session ∷ past)) }
+        ensures stands { OnOk result ((past : List Event) → StandsFor self.old past → session ≡ length past
+            → history.params_of past session ≡ None → StandsFor self.new (began session ∷ past)) }
     {
         self.session_records.push(SessionRecord {
             session,
@@ -92,7 +103,8 @@ impl ParamBook {
     /// The session with its parameters, if it was entered and hasn't left since.
     pub fn session_record(&self, session: u64) -> Option<SessionRecord>
         ensures found { result ≡ find (is_of session) self.now }
-        ensures stands { (past : List Event) → StandsFor self.now past → result ≡ (if history.is_live past session then Some (session_record_of past session) else None) }
+        ensures stands { (past : List Event) → StandsFor self.now past
+            → result ≡ (if history.is_live past session then Some (session_record_of past session) else None) }
     {
         session_record_of(&self.session_records, session)
     }
@@ -102,7 +114,8 @@ impl ParamBook {
         requires { IsTrue (is_entered session self.old) }
         ensures end { result ≡ set_end self.old session (history.supported asked) }
         ensures session_records { self.new ≡ session_records_after result self.old session (history.supported asked) }
-        ensures stands { (past : List Event) → StandsFor self.old past → (set_reply result ≡ reply_params past session asked) × StandsFor self.new (asked_for session asked result ∷ past) }
+        ensures stands { (past : List Event) → StandsFor self.old past
+            → (set_reply result ≡ reply_params past session asked) × StandsFor self.new (asked_for session asked result ∷ past) }
     {
         set_among(&mut self.session_records, session, asked)
     }

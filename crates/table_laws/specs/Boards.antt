@@ -22,4 +22,5 @@ pub record AnswersAsHistory (config : Config) (ledger : BoardState) (past : List
 
 -- the undone jobs and the results that are due are enough for it, where there are as many workers
 abbrev pub BoardAnswersAsHistory : Config → Type 0
-BoardAnswersAsHistory config = (past : List Event) (ledger : BoardState) → ledger.workers ≡ config.workers → StandsFor ledger past → AnswersAsHistory config ledger past
+BoardAnswersAsHistory config =
+    (past : List Event) (ledger : BoardState) → ledger.workers ≡ config.workers → StandsFor ledger past → AnswersAsHistory config ledger past

@@ -113,7 +113,8 @@ removal_waits =
     ∷ event (take 2) (given 10 0 (remove (group_key 0 1)))
     ∷ event (programmed 10 0) reply.Reported
     ∷ event (programmed 9 0) reply.Reported
-    ∷ event (Collect 0) (reply.Collected (result 2 None ∷ result 1 None ∷ result 4 None ∷ result 3 None ∷ result 5 None ∷ result 6 None ∷ result 8 None ∷ result 7 None ∷ []) 0)
+    ∷ event (Collect 0)
+    (reply.Collected (result 2 None ∷ result 1 None ∷ result 4 None ∷ result 3 None ∷ result 5 None ∷ result 6 None ∷ result 8 None ∷ result 7 None ∷ []) 0)
     ∷ event (get All) (reply.Selected (row (hop 1) true ∷ row (hop 2) true ∷ row (group 2 2) true ∷ row (route 0 167772160 8 2) true ∷ []))
     ∷ [])
 

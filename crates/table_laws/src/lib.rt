@@ -1,5 +1,10 @@
 //! Laws of every lawful history of the table. Each is the contract of a function that does nothing: to call it is
-//! to cite the law. Each statement in `specs/Laws` of `table_model` is the contract of a function here.
+//! to cite the law. Each statement in `specs/Laws` of `table_model` is the contract of a function here; `specs/` has the
+//! further ones. Begin with `rib_is_closed`, `fib_is_closed` and `all_are_answered`.
+//!
+//! ```ignore
+//! rib_is_closed(); // from here on: after every lawful history each entry's references are in the table
+//! ```
 #![tactic(auto)]
 
 mod election;

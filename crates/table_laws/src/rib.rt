@@ -30,7 +30,8 @@ pub fn chains_are_short()
 /// A group is refused as too deep exactly where the table with it would have a chain that comes back to itself or has
 /// more than four groups.
 pub fn too_deep_is_not_shallow()
-    ensures { (table : List Entry) (entry : Entry) → in_order table ≡ true → is_shallow table ≡ true → is_too_deep table entry ≡ not (is_shallow (put entry table)) }
+    ensures { (table : List Entry) (entry : Entry) → in_order table ≡ true → is_shallow table ≡ true
+        → is_too_deep table entry ≡ not (is_shallow (put entry table)) }
 {}
 
 /// The table changes only by an operation of the then primary under the highest id, a Flush that is allowed, or the

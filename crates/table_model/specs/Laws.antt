@@ -1,4 +1,5 @@
--- What acknowledgements and tables are worth, over every lawful history. The part of a lawful history before an event is lawful too, so each law holds at each event.
+-- What acknowledgements and tables are worth, over every lawful history. The part of a lawful history before an event is lawful too:
+-- each law holds at each event.
 use Rattle.std.specs.Prelude.{◌≡◌, ◌↔◌, ◌⊎◌, ℕ, ℤ, ◌<◌, ◌≤◌, Bool, true, false, not, ◌&&◌, List, [], ◌∷◌, ◌++◌, ◌==◌, take, length, count_by, option_and_then, is_some, if◌then◌else◌, Option, Some, None}
 use Rattle.std.specs.List.{list_all, list_any}
 use Rattle.aft_entries.specs.declared.entry.Entry.{Entry}
@@ -43,7 +44,8 @@ RibIsInOrder config = (past : List Event) → IsLawful config past → in_order 
 abbrev pub ChainsAreShort : Config → Type 0
 ChainsAreShort config = (past : List Event) → IsLawful config past → is_shallow (rib past) ≡ true
 
--- what may change the table: an operation of the then primary under the highest id, a Flush that is allowed, or the end of the primary's session where the whole table goes with it
+-- what may change the table: an operation of the then primary under the highest id, a Flush that is allowed, or the end of the primary's session
+-- where the whole table goes with it
 abbrev pub MayChange : List Event → Event → Type 0
 MayChange past e = elim e.command [
   | Operate session operation now ↦ (e.reply ≡ reply.RibDone) × (is_primary past session ≡ true) × (operation.election ≡ Some (highest past))
@@ -110,13 +112,15 @@ JobsAscend = (past : List Event) → is_ascending (tasks past) ≡ true
 -- no two jobs in conflict are out
 abbrev pub OutAreApart : Config → Type 0
 OutAreApart config =
-    (past : List Event) → IsLawful config past → (before middle after : List TrackedTask) (a b : TrackedTask) → tracked_tasks past ≡ before ++ a ∷ middle ++ b ∷ after
+    (past : List Event) → IsLawful config past → (before middle after : List TrackedTask) (a b : TrackedTask)
+    → tracked_tasks past ≡ before ++ a ∷ middle ++ b ∷ after
     → is_out a.outcome ≡ true → is_out b.outcome ≡ true → conflict a.task b.task ≡ false
 
 -- jobs in conflict are done in the order of their numbers: where the later one is out or done, the earlier one is done
 abbrev pub ConflictsInOrder : Config → Type 0
 ConflictsInOrder config =
-    (past : List Event) → IsLawful config past → (before middle after : List TrackedTask) (a b : TrackedTask) → tracked_tasks past ≡ before ++ a ∷ middle ++ b ∷ after
+    (past : List Event) → IsLawful config past → (before middle after : List TrackedTask) (a b : TrackedTask)
+    → tracked_tasks past ≡ before ++ a ∷ middle ++ b ∷ after
     → conflict a.task b.task ≡ true → is_waiting b.outcome ≡ false → is_undone a.outcome ≡ false
 
 abbrev pub completes : JobNumber → Option JobUpdate → Bool

@@ -36,6 +36,7 @@ pub struct Operation {
     pub id: u64,
     /// The election id that it bears, if any.
     pub election: Option<u128>,
+    /// What it asks for, or why it is refused already.
     pub ask: Ask,
 }
 

@@ -4,7 +4,9 @@ use aft_entries::{Entry, Key};
 /// Jobs stand in the order of their numbers.
 #[derive(Clone, Copy, Debug, PartialEq, Eq, PartialOrd, Ord)]
 pub struct JobNumber {
+    /// The position of the event that made it.
     pub position: u64,
+    /// Its place among the jobs of that event, counted from 0.
     pub index: u64,
 }
 
@@ -20,7 +22,9 @@ pub enum Work {
 /// A job for the forwarding table, as a worker is given it.
 #[derive(Drop)]
 pub struct Job {
+    /// What names it.
     pub number: JobNumber,
+    /// What is to be done.
     pub work: Work,
 }
 
@@ -36,6 +40,7 @@ pub enum Verdict {
 /// A job as it is made.
 #[derive(Drop)]
 pub struct NewJob {
+    /// What a worker is given.
     pub job: Job,
     /// The id of the operation that made it, and 0 in a purge.
     pub id: u64,

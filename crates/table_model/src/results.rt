@@ -76,6 +76,7 @@ impl Batch {
         }
     }
 
+    /// How many results there are.
     pub fn len(&self) -> usize
         ensures count { result ≡ length self.now }
         ensures most { result ≤ 256 }
@@ -90,6 +91,7 @@ impl Batch {
         &self.results
     }
 
+    /// The same list, and its places with it.
     pub fn into_list(self) -> LinkedList<FibResult>
         ensures { result ≡ self }
     {
