@@ -30,8 +30,9 @@ fn apply<S: Source, K: Sink>(
     input: &mut S,
     output: &mut K,
 ) -> u8
-    ensures applies { Applies (setting_with instances) result (told (S.taken input.old) (S.taken input.new) (S.left input.old) (S.left input.new) (K.placed output.old) (K.placed output.new)) }
-    ensures over { (all : List ℕ) → S.left input.old ≡ Some all → AppliesOver (setting_with instances) result all (told (S.taken input.old) (S.taken input.new) (S.left input.old) (S.left input.new) (K.placed output.old) (K.placed output.new)) }
+    ensures applies { Applies (setting_with instances) result (told S.taken S.left K.placed input.old input.new output.old output.new) }
+    ensures over { (all : List ℕ) → S.left input.old ≡ Some all →
+        AppliesOver (setting_with instances) result all (told S.taken S.left K.placed input.old input.new output.old output.new) }
     ensures status { IsStatus result }
     ensures read { HasCause (S.faults input.old) (S.faults input.new) (result ≡ 4) }
     ensures read_stays { StaysUnless (S.faults input.old) (S.faults input.new) (result ≡ 4) }
@@ -63,12 +64,16 @@ pub fn gribi_main<S: Source, K: Sink>(
     ensures refused { instances_in (map string_bytes words.now) ≡ None → (result ≡ 2) ⊎ (result ≡ 6) }
     ensures unread { instances_in (map string_bytes words.now) ≡ None → input.new ≡ input.old }
     ensures silent { instances_in (map string_bytes words.now) ≡ None → result ≡ 6 → output.new ≡ output.old }
-    ensures usage_line { result ≡ 2 → Wrote (K.placed output.old) usage_line (K.placed output.new) ⊎ HasRisen (K.faults output.old) (K.faults output.new) }
+    ensures usage_line { result ≡ 2 →
+        Wrote (K.placed output.old) usage_line (K.placed output.new) ⊎ HasRisen (K.faults output.old) (K.faults output.new) }
     ensures usage_part { result ≡ 2 → WrotePart (K.placed output.old) usage_line (K.placed output.new) }
     // Else the answers of the one-thread server are written: a function of the bytes that were taken,
-    ensures applies { (names : List (List ℕ)) → instances_in (map string_bytes words.now) ≡ Some names → Applies (setting_with names) result (told (S.taken input.old) (S.taken input.new) (S.left input.old) (S.left input.new) (K.placed output.old) (K.placed output.new)) }
+    ensures applies { (names : List (List ℕ)) → instances_in (map string_bytes words.now) ≡ Some names →
+        Applies (setting_with names) result (told S.taken S.left K.placed input.old input.new output.old output.new) }
     // and of the input, where the source tells it.
-    ensures over { (names : List (List ℕ)) → instances_in (map string_bytes words.now) ≡ Some names → (all : List ℕ) → S.left input.old ≡ Some all → AppliesOver (setting_with names) result all (told (S.taken input.old) (S.taken input.new) (S.left input.old) (S.left input.new) (K.placed output.old) (K.placed output.new)) }
+    ensures over { (names : List (List ℕ)) → instances_in (map string_bytes words.now) ≡ Some names →
+        (all : List ℕ) → S.left input.old ≡ Some all →
+        AppliesOver (setting_with names) result all (told S.taken S.left K.placed input.old input.new output.old output.new) }
     ensures statuses { (result ≡ 2) ⊎ IsStatus result }
     ensures read { HasCause (S.faults input.old) (S.faults input.new) (result ≡ 4) }
     ensures read_stays { StaysUnless (S.faults input.old) (S.faults input.new) (result ≡ 4) }
