@@ -23,8 +23,11 @@ pub enum Cut {
 /// Why a cutter gives no message any more.
 #[derive(Clone, Copy, Debug, PartialEq, Eq)]
 pub enum Refusal {
+    /// A flag byte isn't 0.
     Compressed,
+    /// A length is above the limit.
     TooLong,
+    /// There was no memory for a message.
     NoMemory,
 }
 
