@@ -116,7 +116,7 @@ one_longer : (n k : ℕ) (rest : List ℕ) (t : Bool) → length rest ≤ suc k 
 one_longer n k rest true h = omega arith
 one_longer n k rest false h = omega arith
 
-varint_length : (k n : ℕ) → length (varint_upto k n) ≤ suc k
+pub varint_length : (k n : ℕ) → length (varint_upto k n) ≤ suc k
 unfolding varint_upto
 varint_length zero n = omega arith
 varint_length (suc k) n = one_longer n k (varint_upto k (n / 128)) (nat_lt n 128) (varint_length k (n / 128))

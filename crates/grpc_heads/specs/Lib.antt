@@ -1,3 +1,4 @@
+pub mod CallEnd
 pub mod GrpcStatus
 pub mod Heads
 pub mod Trailers

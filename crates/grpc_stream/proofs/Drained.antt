@@ -15,7 +15,8 @@ use Rattle.h2_exchange.specs.Requests.{RequestIs}
 use Rattle.h2_exchange.specs.Streams.{begun, is_begun, is_ended_by, is_live, is_over, is_reset}
 use Rattle.h2_exchange.proofs.Steps.{begun_has}
 use Rattle.grpc_stream.specs.Laws.{AreSuited, PumpedIsAnswered, PumpedIsAsked}
-use Rattle.grpc_stream.specs.CallTrace.{CallTrace, CarriesResponseOn, CarriesRequestOn, IsSoundCallTrace, asked_on, call_end_of, is_end, is_ended, queued_on, text_of, unsent_on, waiting_in}
+use Rattle.grpc_heads.specs.CallEnd.{call_end_of}
+use Rattle.grpc_stream.specs.CallTrace.{CallTrace, CarriesResponseOn, CarriesRequestOn, IsSoundCallTrace, asked_on, is_end, is_ended, queued_on, text_of, unsent_on, waiting_in}
 use Rattle.grpc_stream.proofs.Begun.{head_stands}
 use Rattle.grpc_stream.proofs.Entire.{all_is_answered, all_is_asked}
 use Rattle.grpc_stream.proofs.Pieces.{parts_end, as_many, response_end, request_end}

@@ -11,7 +11,8 @@ use Rattle.h2_exchange.specs.Laws.{WrittenBlocksAreRead}
 use Rattle.h2_exchange.specs.Requests.{end_if}
 use Rattle.h2_exchange.specs.StreamParts.{Item, Message, Finish, StreamEnd, Trailers, end_by, parts}
 use Rattle.grpc_stream.specs.Laws.{AllIsAnswered, AllIsAsked}
-use Rattle.grpc_stream.specs.CallTrace.{CallEnd, CarriesResponseOn, CarriesRequestOn, asked_on, call_end_of, half, is_end, queued_on, text_of}
+use Rattle.grpc_heads.specs.CallEnd.{CallEnd, call_end_of}
+use Rattle.grpc_stream.specs.CallTrace.{CarriesResponseOn, CarriesRequestOn, asked_on, half, is_end, queued_on, text_of}
 use Rattle.grpc_stream.proofs.Begun.{head_stands}
 use Rattle.grpc_stream.proofs.Counted.{IsCut, is_cut, item_size, one_more, ends, all_of}
 use Rattle.grpc_stream.proofs.Pieces.{parts_size, parts_end, as_many, response_size, response_end, request_size, request_end}

@@ -6,7 +6,8 @@ use Rattle.h2_exchange.specs.Calls.{Call, shown_of}
 use Rattle.h2_exchange.specs.Exchange.{collect}
 use Rattle.grpc_stream.specs.Laws.{ServersShow}
 use Rattle.grpc_stream.specs.NextEvent.{asked_of, shown_events_of}
-use Rattle.grpc_stream.specs.CallTrace.{PeerEvent, Asked, CallEnd}
+use Rattle.grpc_heads.specs.CallEnd.{CallEnd}
+use Rattle.grpc_stream.specs.CallTrace.{PeerEvent, Asked}
 
 asked : (cs : List (Call Method CallEnd)) → flat_map asked_of (map Asked cs) ≡ cs
 asked [] = refl

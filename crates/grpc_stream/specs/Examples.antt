@@ -2,7 +2,7 @@
 use Rattle.std.specs.Prelude.{◌≡◌, [], ◌∷◌, ◌++◌, codes}
 use Rattle.grpc_heads.specs.Written.{field, response_fields}
 use Rattle.schema_numbers.specs.Numbers.{Numbers}
-use Rattle.grpc_stream.specs.CallTrace.{Http, Unreadable, call_end_of, status_only}
+use Rattle.grpc_heads.specs.CallEnd.{Http, Unreadable, call_end_of, status_only}
 
 pub record EndsAreRead (n : Numbers) : Type 0 where
   pub http : call_end_of n (field (codes ":status") (codes "405") ∷ []) ≡ Http 405

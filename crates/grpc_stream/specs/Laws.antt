@@ -12,7 +12,8 @@ use Rattle.h2_exchange.specs.StreamParts.{AnswersBegin, AnswersAre}
 use Rattle.h2_conn.specs.ConnectionTrace.{is_alive}
 use Rattle.grpc_stream.specs.NextEvent.{shown_events_of}
 use Rattle.grpc_stream.specs.Sends.{Pumps}
-use Rattle.grpc_stream.specs.CallTrace.{CallTrace, Asked, CallEnd, IsSoundCallTrace, asked_on, call_end_of, is_ended, unsent_on, queued_on, suits, waiting_in}
+use Rattle.grpc_heads.specs.CallEnd.{CallEnd, call_end_of}
+use Rattle.grpc_stream.specs.CallTrace.{CallTrace, Asked, IsSoundCallTrace, asked_on, is_ended, unsent_on, queued_on, suits, waiting_in}
 
 -- each end that was taken is one of its side
 abbrev pub AreSuited : CallTrace → Type 0

@@ -12,7 +12,8 @@ use Rattle.h2_conn.specs.ConnectionTrace.{ConnectionTrace, Refusal, Stopped, NoM
 use Rattle.h2_conn.specs.Answers as conn
 use Rattle.grpc_stream.specs.declared.event.CallEvent.{CallEvent}
 use Rattle.grpc_stream.specs.declared.event.CallEvent.TheVariants as says
-use Rattle.grpc_stream.specs.CallTrace.{CallTrace, PeerEvent, Asked, Answered, CallEnd, reported_in, is_ended}
+use Rattle.grpc_heads.specs.CallEnd.{CallEnd}
+use Rattle.grpc_stream.specs.CallTrace.{CallTrace, PeerEvent, Asked, Answered, reported_in, is_ended}
 
 -- ---- what is shown
 

@@ -25,7 +25,7 @@ pub trait CallConnection: Drop {
     ghost use Rattle.h2_conn.specs.Sends.{CarryBlock, CarryCredit, CarryReset, BeginsWhere, SendsWhere};
     ghost use Rattle.grpc_stream.specs.NextEvent.{NextEvent, is_event};
     ghost use Rattle.grpc_stream.specs.Sends.{Pumps};
-    ghost use Rattle.grpc_stream.specs.CallTrace as call_trace;
+    ghost use Rattle.grpc_heads.specs.CallEnd as call_end;
     ghost use Rattle.grpc_stream.specs.CallTrace.{CallTrace, Keeps, Carries, IsSoundCallTrace, changed, is_taking, took, waiting_in};
 
     // The calls were used so.
@@ -71,14 +71,14 @@ pub trait CallConnection: Drop {
     fn end(&mut self, n: &Numbering, stream: u32, status: Status) -> Result<(), SendFault>
         requires { sum_by size_of (response_fields ++ trailer_fields n.now status) ≤ 65536 }
         ensures ok { (t : CallTrace) → stands self.old t → t.numbers ≡ n.now →
-            OnOk result (stands self.new (took stream (Finish (call_trace.Status status)) t)) }
+            OnOk result (stands self.new (took stream (Finish (call_end.Status status)) t)) }
         ensures err { OnErr result (Keeps (stands self.old) (stands self.new)) }
         ensures sends { (t : CallTrace) → stands self.old t → SendsWhere (is_taking t stream) result }
         ensures ahead { ahead self.new ≡ ahead self.old };
 
     /// Takes the end of a client's side of a call.
     fn finish(&mut self, stream: u32) -> Result<(), SendFault>
-        ensures ok { OnOk result (Carries (stands self.old) (stands self.new) (took stream (Finish call_trace.HalfClose))) }
+        ensures ok { OnOk result (Carries (stands self.old) (stands self.new) (took stream (Finish call_end.HalfClose))) }
         ensures err { OnErr result (Keeps (stands self.old) (stands self.new)) }
         ensures sends { (t : CallTrace) → stands self.old t → SendsWhere (is_taking t stream) result }
         ensures ahead { ahead self.new ≡ ahead self.old };
