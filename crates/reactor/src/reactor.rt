@@ -1,5 +1,5 @@
-ghost use Rattle.std.specs.Prelude.{◌≡◌, ◌+◌, ◌≤◌, ◌<◌, ◌∷◌, [], IfSome, IfNone, IfErr, OnOk, OnErr, All, vec_len, vec_capacity};
-ghost use Rattle.reactor.specs.Turns.{IfOver};
+ghost use Rattle.std.specs.Prelude.{◌≡◌, ◌+◌, ◌≤◌, ◌<◌, ◌∷◌, ◌++◌, [], IfSome, IfNone, IfErr, OnOk, All, length, vec_len, vec_capacity};
+ghost use Rattle.reactor.specs.Turns.{IfLive, IfOver, IsRound, IsTurnAt};
 
 use crate::turning::{Turned, Turning};
 use std::alloc::Global;
@@ -15,7 +15,8 @@ pub struct Round {
     pub ended: u64,
 }
 
-/// Items that take turns. Contracts see how many have turns to come, and how many are over and weren't taken out.
+/// Items that take turns. Contracts see those that have turns to come, in no order that counts, and those
+/// that are over and weren't taken out.
 #[derive(Drop)]
 pub struct Reactor<T: Turning + Drop> {
     live: Vec<T>,
@@ -25,19 +26,21 @@ pub struct Reactor<T: Turning + Drop> {
 
 impl<T: Turning + Drop> Model for Reactor<T> {
     ghost use Rattle.std.specs.Prelude.{◌+◌, ◌≤◌, All, vec_len, vec_capacity};
-    ghost use Rattle.reactor.specs.Turns.{ReactorCounts};
+    ghost use Rattle.reactor.specs.Turns.{ReactorItems};
 
-    ghost Value = { ReactorCounts };
+    ghost Value = { ReactorItems T };
 
-    ghost view = { λ r. record { live = vec_len r.live; over = vec_len r.over } };
+    ghost view = { λ r. record { live = r.live.items; over = r.over.items } };
 
-    ghost invariant = { λ r. All T.keeps r.live.items × All (λ x. T.keeps x × T.ends x) r.over.items × (vec_len r.live + vec_len r.over ≤ vec_capacity r.over) };
+    ghost invariant = { λ r. All T.keeps r.live.items
+        × All (λ x. T.keeps x × T.ends x) r.over.items
+        × (vec_len r.live + vec_len r.over ≤ vec_capacity r.over) };
 }
 
 impl<T: Turning + Drop> Reactor<T> {
     /// No items.
     pub fn new(alloc: Global) -> Reactor<T>
-        ensures { (result.live ≡ 0) × (result.over ≡ 0) }
+        ensures { result ≡ record { live = []; over = [] } }
     {
         Reactor {
             live: Vec::new(alloc),
@@ -48,7 +51,7 @@ impl<T: Turning + Drop> Reactor<T> {
     /// Takes in an item, or hands it back for want of memory.
     pub fn adopt(&mut self, item: T) -> Result<(), T>
         requires { T.keeps item }
-        ensures ok { OnOk result (self.new.live ≡ self.old.live + 1) }
+        ensures ok { OnOk result (self.new.live ≡ self.old.live ++ item ∷ []) }
         ensures over { self.new.over ≡ self.old.over }
         ensures err { IfErr result (λ back. (back ≡ item) × (self.new.live ≡ self.old.live)) }
     {
@@ -62,15 +65,15 @@ impl<T: Turning + Drop> Reactor<T> {
 
     /// How many items aren't over.
     pub fn live(&self) -> u64
-        ensures { result ≡ self.now.live }
+        ensures { result ≡ length self.now.live }
     {
         self.live.len() as u64
     }
 
-    /// Takes out the item that has been over longest.
+    /// Takes out the item that has been over longest. None exactly where no item is over.
     pub fn take_over(&mut self) -> Option<T>
-        ensures some { IfSome result (λ item. T.keeps item × T.ends item × (self.old.over ≡ self.new.over + 1)) }
-        ensures none { IfNone result ((self.old.over ≡ 0) × (self.new.over ≡ 0)) }
+        ensures some { IfSome result (λ item. T.keeps item × T.ends item × (self.old.over ≡ item ∷ self.new.over)) }
+        ensures none { IfNone result ((self.old.over ≡ []) × (self.new.over ≡ [])) }
         ensures live { self.new.live ≡ self.old.live }
     {
         if self.over.is_empty() {
@@ -81,9 +84,7 @@ impl<T: Turning + Drop> Reactor<T> {
 
     /// Gives each item that isn't over one turn.
     pub fn round<R: Wait>(&mut self, rt: &R) -> Round
-        ensures live { self.new.live + result.ended ≡ self.old.live }
-        ensures over { self.new.over ≡ self.old.over + result.ended }
-        ensures progressed { result.progressed ≤ self.new.live }
+        ensures turns { IsRound T.goes self.old self.new result.progressed result.ended }
     {
         let Reactor { live, over } = self;
         give_turns(rt, live, over)
@@ -97,9 +98,8 @@ fn give_turns<T: Turning + Drop, R: Wait>(rt: &R, live: &mut Vec<T>, over: &mut 
     ensures live { All T.keeps live.new.items }
     ensures over { All (λ x. T.keeps x × T.ends x) over.new.items }
     ensures room { vec_len live.new + vec_len over.new ≤ vec_capacity over.new }
-    ensures lives { vec_len live.new + result.ended ≡ vec_len live.old }
-    ensures overs { vec_len over.new ≡ vec_len over.old + result.ended }
-    ensures progressed { result.progressed ≤ vec_len live.new }
+    ensures turns { IsRound T.goes (record { live = live.old.items; over = over.old.items })
+        (record { live = live.new.items; over = over.new.items }) result.progressed result.ended }
 {
     let mut round = Round {
         progressed: 0,
@@ -107,18 +107,44 @@ fn give_turns<T: Turning + Drop, R: Wait>(rt: &R, live: &mut Vec<T>, over: &mut 
     };
     let mut at = 0;
     while at < live.len() {
-        match live[at].turn(rt) {
+        match turn_at(rt, live, over, at) {
             Turned::Progress => {
                 round.progressed += 1;
                 at += 1;
             }
             Turned::Idle => at += 1,
-            Turned::Over => {
-                let item = live.swap_remove(at);
-                over.push_reserved(item);
-                round.ended += 1;
-            }
+            Turned::Over => round.ended += 1,
         }
     }
     round
+}
+
+// Gives the item at this place its turn, and moves it to those that are over if that was its last.
+fn turn_at<T: Turning + Drop, R: Wait>(
+    rt: &R,
+    live: &mut Vec<T>,
+    over: &mut Vec<T>,
+    at: usize,
+) -> Turned
+    requires place { at < vec_len live.old }
+    requires live { All T.keeps live.old.items }
+    requires over { All (λ x. T.keeps x × T.ends x) over.old.items }
+    requires room { vec_len live.old + vec_len over.old ≤ vec_capacity over.old }
+    ensures live { All T.keeps live.new.items }
+    ensures over { All (λ x. T.keeps x × T.ends x) over.new.items }
+    ensures room { vec_len live.new + vec_len over.new ≤ vec_capacity over.new }
+    ensures sizes { vec_len live.new + vec_len over.new ≡ vec_len live.old + vec_len over.old }
+    ensures size { IfOver result (vec_len live.new + 1 ≡ vec_len live.old) }
+    ensures stays { IfLive result (vec_len live.new ≡ vec_len live.old) }
+    ensures turned { IsTurnAt T.goes at live.old.items over.old.items live.new.items over.new.items result }
+{
+    match live[at].turn(rt) {
+        Turned::Progress => Turned::Progress,
+        Turned::Idle => Turned::Idle,
+        Turned::Over => {
+            let item = live.swap_remove(at);
+            over.push_reserved(item);
+            Turned::Over
+        }
+    }
 }
