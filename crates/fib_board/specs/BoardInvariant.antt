@@ -1,18 +1,20 @@
 -- How a board keeps its jobs, and the places that were made for what they will need.
 use Rattle.std.specs.Prelude.{◌≡◌, ◌⊎◌, ℕ, ◌+◌, ◌≤◌, ◌^◌, Bool, true, not, ◌&&◌, List, [], ◌∷◌, length, Option, Some, None}
 use Rattle.std.specs.List.{list_all, sum_by}
-use Rattle.table_model.specs.declared.job.Work.{Work}
 use Rattle.table_model.specs.Jobs.{TrackedTask, Outcome, Waiting, Out, number_lt, on_shard, is_waiting, is_blocked}
 use Rattle.table_model.specs.BoardState.{DueResults}
+use Rattle.fib_board.specs.BoxedWork.{work_in}
+use Rattle.fib_board.specs.declared.boxed.BoxedWork.{BoxedWork}
 
 -- a job is out where its worker has the work
-abbrev pub outcome_with : Option Work → Outcome
+abbrev pub outcome_with : Option BoxedWork → Outcome
 outcome_with None = Out
 outcome_with (Some work) = Waiting
 
 -- the worker is given what the forwarding table will get
-abbrev pub IsSame : Option Work → Work → Type 0
-IsSame given work = (given ≡ None) ⊎ (given ≡ Some work)
+abbrev pub IsSame : Option BoxedWork → BoxedWork → Type 0
+IsSame None work = Unit {0}
+IsSame (Some given) work = work_in given ≡ work_in work
 
 -- the job is the worker's, waits, and has no earlier one to wait for
 abbrev pub may_start : ℕ → List TrackedTask → ℕ → TrackedTask → Bool

@@ -1,3 +1,4 @@
 pub mod Steps
 pub mod BoardInvariant
 pub mod Follows
+pub mod BoxedWork

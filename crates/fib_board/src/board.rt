@@ -5,8 +5,10 @@ ghost use Rattle.table_model.specs.Laws.{left_by};
 ghost use Rattle.table_model.specs.BoardState.{due_for};
 ghost use Rattle.table_model.specs.Results.{is_awaited, failure};
 ghost use Rattle.table_model.specs.Completed.{is_none_or_reason};
+ghost use Rattle.fib_board.specs.BoxedWork.{work_in};
 ghost use Rattle.fib_board.specs.Steps.{cost, waiting, is_before, given_for, undone_after_take, skipped_results, is_out_as, out_task, undone_after_report, fib_after_report, reported_results, due_after_collect, due_after_forget, unwanted, fib_by};
 
+use crate::boxed::{BoxedJob, BoxedWork};
 use crate::due::{self, Row};
 use crate::ends::{discard, end, send};
 use crate::jobs::{awaited, drop_owner, is_clear, next_place, out_place, push};
@@ -15,7 +17,7 @@ use crate::place::{ResultNode, add_result_nodes};
 use aft_store::{Store, is_used, resolves};
 use std::alloc::{AllocError, Global};
 use std::marker::Model;
-use table_model::{Batch, Job, JobNumber, NewJob, Verdict, Work};
+use table_model::{Batch, Job, JobNumber, Verdict, Work};
 
 /// What a worker that asks is answered.
 #[derive(Drop)]
@@ -105,7 +107,7 @@ impl Board {
     /// Four things of the job are taken as given, and no clause needs them: its number is above those of the jobs that
     /// are done too; an entry that it displaced has its key; a job whose result is wanted has an owner, who wasn't
     /// forgotten; and the references of an entry that it installs are different keys.
-    pub fn add_reserved(&mut self, job: NewJob)
+    pub fn add_reserved(&mut self, job: BoxedJob)
         requires room { cost job ≤ self.old.spare }
         requires last { list_all (is_before job.job.number) self.old.undone ≡ true }
         requires copy { job.copy ≡ left_by job.job.work }
@@ -251,12 +253,12 @@ impl Board {
 const MOST_PLACES: u64 = 4_611_686_018_427_387_904;
 
 // The work can't be done: a reference isn't there, or the key is referred to.
-fn skip_reason(fib: &Store, work: &Work) -> Option<u8>
-    ensures { result ≡ (if history.is_skipped fib.now.entries work.now then Some (history.skip_reason work.now) else None) }
+fn skip_reason(fib: &Store, work: &BoxedWork) -> Option<u8>
+    ensures { result ≡ (if history.is_skipped fib.now.entries (work_in work.now) then Some (history.skip_reason (work_in work.now)) else None) }
 {
     match work {
-        Work::Install(entry) => { if resolves(fib, entry) { None } else { Some(21) } }
-        Work::Remove(key) => { if is_used(fib, key) { Some(22) } else { None } }
+        BoxedWork::Install(entry) => { if resolves(fib, entry) { None } else { Some(21) } }
+        BoxedWork::Remove(key) => { if is_used(fib, key) { Some(22) } else { None } }
     }
 }
 

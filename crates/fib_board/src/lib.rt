@@ -10,7 +10,7 @@
 //! ```ignore
 //! let mut board = Board::new(alloc, 1)?;
 //! board.reserve(cost)?;
-//! board.add_reserved(made);
+//! board.add_reserved(BoxedJob::new(alloc, made)?);
 //! if let Given::Work(job) = board.take(0, now) {
 //!     board.report(job.number, Verdict::Programmed, now); // its effect is in `board.fib()`, its result is due
 //! }
@@ -18,6 +18,7 @@
 #![tactic(auto)]
 
 mod board;
+mod boxed;
 mod due;
 mod ends;
 mod jobs;
@@ -26,5 +27,6 @@ mod pending_job;
 mod place;
 
 pub use board::{Board, Given};
+pub use boxed::BoxedJob;
 pub use laws::board_follows_history;
 pub use table_model::{Batch, FibResult, Job, JobNumber, NewJob, Verdict, Work};

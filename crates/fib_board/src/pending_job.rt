@@ -3,12 +3,14 @@ ghost use Rattle.aft_entries.specs.References as references;
 ghost use Rattle.table_model.specs.Jobs as history;
 ghost use Rattle.table_model.specs.Laws.{left_by};
 ghost use Rattle.table_model.specs.Results as results;
+ghost use Rattle.fib_board.specs.BoxedWork.{work_in, entry_in};
 ghost use Rattle.fib_board.specs.Steps.{waiting, unwanted, has_number, is_out_as};
 
+use crate::boxed::{BoxedJob, BoxedWork, displaced_refers, key_of, unboxed_work, work_refers};
 use crate::place::ResultNode;
-use aft_entries::{Entry, Key, refers, shard};
+use aft_entries::{Entry, Key, shard};
 use std::marker::Model;
-use table_model::{Job, JobNumber, NewJob, Work};
+use table_model::{Job, JobNumber, Work};
 
 /// A job that isn't done.
 #[derive(Drop)]
@@ -18,21 +20,28 @@ pub struct PendingJob {
     owner: Option<u64>,
     wants: bool,
     // What the forwarding table will get.
-    work: Work,
+    work: BoxedWork,
     // The same for the worker, until the job goes out.
-    given: Option<Work>,
-    displaced: Option<Entry>,
+    given: Option<BoxedWork>,
+    displaced: Option<Box<Entry>>,
     place: ResultNode,
 }
 
 impl Model for PendingJob {
     ghost use Rattle.table_model.specs.Jobs.{TrackedTask, refs_before};
     ghost use Rattle.fib_board.specs.BoardInvariant.{outcome_with, IsSame};
+    ghost use Rattle.fib_board.specs.BoxedWork.{work_in, entry_in};
 
     ghost Value = { TrackedTask };
 
     ghost view = { λ p. record {
-      task = record { job = record { number = p.number; work = p.work }; id = p.id; owner = p.owner; wants = p.wants; before = refs_before p.displaced };
+      task = record {
+        job = record { number = p.number; work = work_in p.work };
+        id = p.id;
+        owner = p.owner;
+        wants = p.wants;
+        before = refs_before (entry_in p.displaced);
+      };
       outcome = outcome_with p.given;
     } };
 
@@ -56,19 +65,19 @@ pub struct Ended {
 
 impl PendingJob {
     /// A job that waits, with a place for its result.
-    pub fn new(made: NewJob, place: ResultNode) -> PendingJob
+    pub fn new(made: BoxedJob, place: ResultNode) -> PendingJob
         requires copy { made.copy ≡ left_by made.job.work }
         ensures { result ≡ waiting made }
     {
-        let NewJob {
-            job,
+        let BoxedJob {
+            number,
             id,
             owner,
             wants,
+            work,
             displaced,
             copy,
         } = made;
-        let Job { number, work } = job;
         PendingJob {
             number,
             id,
@@ -89,8 +98,8 @@ impl PendingJob {
     }
 
     /// What the forwarding table will get.
-    pub fn work(&self) -> &Work
-        ensures { result.now ≡ self.now.task.job.work }
+    pub fn work(&self) -> &BoxedWork
+        ensures { work_in result.now ≡ self.now.task.job.work }
     {
         &self.work
     }
@@ -142,7 +151,7 @@ impl PendingJob {
         match std::mem::replace(&mut self.given, None) {
             Some(work) => Job {
                 number: self.number,
-                work,
+                work: unboxed_work(work),
             },
             None => unreachable!(),
         }
@@ -174,7 +183,7 @@ impl PendingJob {
             id,
             owner,
             wants,
-            work,
+            work: unboxed_work(work),
             place,
         }
     }
@@ -182,10 +191,7 @@ impl PendingJob {
     fn key(&self) -> Key
         ensures { result ≡ history.work_key self.now.task.job.work }
     {
-        match &self.work {
-            Work::Install(entry) => entry.key,
-            Work::Remove(key) => *key,
-        }
+        key_of(&self.work)
     }
 
     /// Whether the worker, of so many, serves the job.
@@ -242,33 +248,15 @@ fn is_less(a: JobNumber, b: JobNumber) -> bool
     a.position < b.position || (a.position == b.position && a.index < b.index)
 }
 
-fn work_refers(work: &Work, key: &Key) -> bool
-    ensures { result ≡ references.is_among key.now (history.work_refs work.now) }
-{
-    match work {
-        Work::Install(entry) => refers(entry, key),
-        Work::Remove(_) => false,
-    }
-}
-
-fn displaced_refers(displaced: &Option<Entry>, key: &Key) -> bool
-    ensures { result ≡ references.is_among key.now (history.refs_before displaced.now) }
-{
-    match displaced {
-        Some(entry) => refers(entry, key),
-        None => false,
-    }
-}
-
 // The work with the entry's copy.
-fn work_with(work: &Work, copy: Option<Entry>) -> Work
-    requires { copy ≡ left_by work.now }
-    ensures { result ≡ work.now }
+fn work_with(work: &BoxedWork, copy: Option<Box<Entry>>) -> BoxedWork
+    requires { entry_in copy ≡ left_by (work_in work.now) }
+    ensures { work_in result ≡ work_in work.now }
 {
     match work {
-        Work::Remove(key) => Work::Remove(*key),
-        Work::Install(_) => match copy {
-            Some(entry) => Work::Install(entry),
+        BoxedWork::Remove(key) => BoxedWork::Remove(*key),
+        BoxedWork::Install(_) => match copy {
+            Some(entry) => BoxedWork::Install(entry),
             None => unreachable!(),
         },
     }

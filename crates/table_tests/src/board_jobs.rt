@@ -1,5 +1,5 @@
 use aft_entries::{Key, KeyName};
-use fib_board::{Board, Given};
+use fib_board::{Board, BoxedJob, Given};
 use std::alloc::{AllocError, Global};
 use std::test::Fail;
 use table_model::{Batch, Job, JobNumber, NewJob, Verdict, Work};
@@ -17,7 +17,7 @@ fn with_removal(alloc: Global) -> Result<Board, AllocError> {
         instance: 0,
         name: KeyName::Label(9),
     };
-    board.add_reserved(NewJob {
+    let made = NewJob {
         job: Job {
             number: NUMBER,
             work: Work::Remove(key),
@@ -27,7 +27,8 @@ fn with_removal(alloc: Global) -> Result<Board, AllocError> {
         wants: true,
         displaced: None,
         copy: None,
-    });
+    };
+    board.add_reserved(BoxedJob::new(alloc, made)?);
     Ok(board)
 }
 

@@ -1,0 +1,141 @@
+//! Jobs whose entries stand in boxes, so that the places of a list of jobs are small.
+ghost use Rattle.std.specs.Prelude.{◌≡◌, IfOk, option_map};
+ghost use Rattle.aft_entries.specs.Order.{key_eq};
+ghost use Rattle.aft_entries.specs.References as references;
+ghost use Rattle.table_model.specs.Jobs as history;
+ghost use Rattle.fib_board.specs.BoxedWork.{work_in, entry_in};
+
+use aft_entries::{Entry, Key, refers};
+use std::alloc::{AllocError, Global};
+use std::marker::Model;
+use table_model::{Job, JobNumber, NewJob, Work};
+
+/// What a job does to the forwarding table.
+#[derive(Drop)]
+pub enum BoxedWork {
+    /// The entry is put in place of the one with its key.
+    Install(Box<Entry>),
+    /// The key is taken out.
+    Remove(Key),
+}
+
+/// A job as it is made, seen as a `NewJob`. Its entries stand in boxes of their own.
+#[derive(Drop)]
+pub struct BoxedJob {
+    pub(crate) number: JobNumber,
+    pub(crate) id: u64,
+    pub(crate) owner: Option<u64>,
+    pub(crate) wants: bool,
+    pub(crate) work: BoxedWork,
+    pub(crate) displaced: Option<Box<Entry>>,
+    pub(crate) copy: Option<Box<Entry>>,
+}
+
+impl Model for BoxedJob {
+    ghost use Rattle.table_model.specs.declared.job.NewJob.{NewJob};
+    ghost use Rattle.fib_board.specs.BoxedWork.{work_in, entry_in};
+
+    ghost Value = { NewJob };
+
+    ghost view = { λ b. record {
+      job = record { number = b.number; work = work_in b.work };
+      id = b.id;
+      owner = b.owner;
+      wants = b.wants;
+      displaced = entry_in b.displaced;
+      copy = entry_in b.copy;
+    } };
+}
+
+impl BoxedJob {
+    /// The job with its entries in boxes. This alone takes memory.
+    pub fn new(alloc: Global, made: NewJob) -> Result<BoxedJob, AllocError>
+        ensures { IfOk result (λ boxed. boxed ≡ made) }
+    {
+        let NewJob {
+            job,
+            id,
+            owner,
+            wants,
+            displaced,
+            copy,
+        } = made;
+        let Job { number, work } = job;
+        let copy = boxed_entry(alloc, copy)?;
+        let displaced = boxed_entry(alloc, displaced)?;
+        let work = boxed_work(alloc, work)?;
+        Ok(BoxedJob {
+            number,
+            id,
+            owner,
+            wants,
+            work,
+            displaced,
+            copy,
+        })
+    }
+}
+
+fn boxed_entry(alloc: Global, entry: Option<Entry>) -> Result<Option<Box<Entry>>, AllocError>
+    ensures { IfOk result (λ boxed. entry_in boxed ≡ entry) }
+{
+    match entry {
+        None => Ok(None),
+        Some(entry) => Ok(Some(Box::new(alloc, entry)?)),
+    }
+}
+
+fn boxed_work(alloc: Global, work: Work) -> Result<BoxedWork, AllocError>
+    ensures { IfOk result (λ boxed. work_in boxed ≡ work) }
+{
+    match work {
+        Work::Remove(key) => Ok(BoxedWork::Remove(key)),
+        Work::Install(entry) => Ok(BoxedWork::Install(Box::new(alloc, entry)?)),
+    }
+}
+
+/// The work without its box.
+pub(crate) fn unboxed_work(work: BoxedWork) -> Work
+    ensures { result ≡ work_in work }
+{
+    match work {
+        BoxedWork::Install(entry) => Work::Install(Box::into_inner(entry)),
+        BoxedWork::Remove(key) => Work::Remove(key),
+    }
+}
+
+/// The key that the work is about.
+pub(crate) fn key_of(work: &BoxedWork) -> Key
+    ensures { result ≡ history.work_key (work_in work.now) }
+{
+    match work {
+        BoxedWork::Install(entry) => entry_key(entry),
+        BoxedWork::Remove(key) => *key,
+    }
+}
+
+fn entry_key(entry: &Entry) -> Key
+    ensures { result ≡ entry.now.key }
+{
+    entry.key
+}
+
+/// Whether the work needs the key.
+pub(crate) fn work_refers(work: &BoxedWork, key: &Key) -> bool
+    ensures { result ≡ references.is_among key.now (history.work_refs (work_in work.now)) }
+{
+    match work {
+        BoxedWork::Install(entry) => refers(entry, key),
+        BoxedWork::Remove(_) => false,
+    }
+}
+
+/// Whether the entry that goes needs the key.
+pub(crate) fn displaced_refers(displaced: &Option<Box<Entry>>, key: &Key) -> bool
+    ensures { result ≡ references.is_among key.now (history.refs_before (entry_in displaced.now)) }
+{
+    match displaced {
+        Some(entry) => refers(entry, key),
+        None => false,
+    }
+}
