@@ -1,5 +1,5 @@
 -- How a board keeps its jobs, and the places that were made for what they will need.
-use Rattle.std.specs.Prelude.{◌≡◌, ◌⊎◌, ℕ, ◌+◌, ◌≤◌, ◌^◌, Bool, true, not, ◌&&◌, List, [], ◌∷◌, length, Option, Some, None}
+use Rattle.std.specs.Prelude.{◌≡◌, ℕ, ◌+◌, ◌≤◌, ◌^◌, Bool, true, not, ◌&&◌, List, [], ◌∷◌, length, Option, Some, None}
 use Rattle.std.specs.List.{list_all, sum_by}
 use Rattle.table_model.specs.Jobs.{TrackedTask, Outcome, Waiting, Out, number_lt, on_shard, is_waiting, is_blocked}
 use Rattle.table_model.specs.BoardState.{DueResults}
