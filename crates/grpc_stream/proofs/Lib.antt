@@ -9,3 +9,4 @@ pub mod Pieces
 pub mod Begun
 pub mod Entire
 pub mod Drained
+pub mod Kept

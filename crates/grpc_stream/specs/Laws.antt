@@ -1,11 +1,17 @@
 -- What the frames of calls spell, on all streams together.
-use Rattle.std.specs.Prelude.{◌≡◌, ℕ, true, false, map, List, []}
+use Rattle.std.specs.Prelude.{◌≡◌, ℕ, Bool, true, false, map, List, [], ◌++◌}
 use Rattle.std.specs.List.{All}
 use Rattle.grpc_heads.specs.declared.head.Method.{Method}
 use Rattle.grpc_heads.specs.Written.{response_fields}
+use Rattle.h2_frames.specs.declared.code.ErrorCode.{ErrorCode}
+use Rattle.h2_exchange.specs.declared.limits.H2Limits.{H2Limits}
+use Rattle.h2_exchange.specs.declared.role.Role.{Role}
 use Rattle.h2_exchange.specs.declared.role.Role.TheVariants.{Client, Server}
 use Rattle.h2_exchange.specs.Calls.{Call, shown}
-use Rattle.h2_exchange.specs.Exchange.{collect, sent}
+use Rattle.h2_exchange.specs.Content.{Outcome}
+use Rattle.h2_exchange.specs.Exchange.{Step, collect, sent}
+use Rattle.h2_exchange.specs.Outcomes.{AreEnough}
+use Rattle.h2_exchange.specs.Outgoing.{SendsOnly}
 use Rattle.h2_exchange.specs.Streams.{is_begun, is_ended_by, is_reset}
 use Rattle.h2_exchange.specs.Requests.{RequestsBegin, RequestIs}
 use Rattle.h2_exchange.specs.StreamParts.{AnswersBegin, AnswersAre}
@@ -62,3 +68,11 @@ PumpedIsAsked =
     (t u : CallTrace) (output : List ℕ) → IsSoundCallTrace u output → AreSuited u → u.connection_trace.role ≡ Client →
     is_alive t.connection_trace ≡ true → Pumps t u → waiting_in u ≡ 0 → (id : ℕ) → is_begun Client u.connection_trace.frames id ≡ true →
     is_reset u.connection_trace.frames id ≡ false → RequestIs u.connection_trace.frames id (asked_on u id)
+
+-- What becomes known of further header blocks takes nothing from what may be sent, where each block that was looked at has
+-- its outcome.
+abbrev pub SendingIsKept : Type 0
+SendingIsKept =
+    (role : Role) (limits : H2Limits) (heads more : List Outcome) (is_asked : List Step → ℕ → ErrorCode → Bool) (bytes rest : List ℕ) →
+    (x : List Step) → AreEnough role limits heads x → SendsOnly role limits heads is_asked bytes rest x →
+    SendsOnly role limits (heads ++ more) is_asked bytes rest x

@@ -4,4 +4,5 @@ pub mod PrefaceCallsTrace
 pub mod NextEvent
 pub mod Sends
 pub mod Shown
+pub mod Unproved
 pub mod CallTrace

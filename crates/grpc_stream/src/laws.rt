@@ -1,5 +1,5 @@
 //! What the calls of a connection spell.
-ghost use Rattle.grpc_stream.specs.Laws.{AllIsAnswered, AllIsAsked, ClientsAsk, PumpedIsAnswered, PumpedIsAsked, ServersAnswer, ServersShow};
+ghost use Rattle.grpc_stream.specs.Laws.{AllIsAnswered, AllIsAsked, ClientsAsk, PumpedIsAnswered, PumpedIsAsked, SendingIsKept, ServersAnswer, ServersShow};
 
 use h2_exchange::laws::written_blocks_are_read;
 
@@ -54,3 +54,8 @@ pub fn pumped_is_asked()
 {
     written_blocks_are_read()
 }
+
+/// A side that sends only what it may does so whatever becomes known of further header blocks.
+pub fn sending_is_kept()
+    ensures { SendingIsKept }
+{}

@@ -1,0 +1,48 @@
+-- Statements that are not proved. No contract cites them.
+use Rattle.std.specs.Prelude.{◌≡◌, ◌⊎◌, ℕ, ◌==◌, true, map, List, [], ◌∷◌, Option, Some, Ok, if◌then◌else◌}
+use Rattle.std.specs.List.{Contains, flat_map}
+use Rattle.grpc_heads.specs.CallEnd.{CallEnd, Status, call_end_of, compressed, method_by, status_by, too_long, truncated, unknown}
+use Rattle.grpc_heads.specs.GrpcStatus.{GrpcStatus}
+use Rattle.grpc_heads.specs.Heads.{head_of}
+use Rattle.grpc_heads.specs.Trailers.{status_in_trailers}
+use Rattle.grpc_heads.specs.Written.{response_fields}
+use Rattle.hpack_tables.specs.declared.field.Field.{Field}
+use Rattle.h2_exchange.specs.declared.limits.H2Limits.{H2Limits}
+use Rattle.h2_exchange.specs.declared.role.Role.TheVariants.{Client, Server}
+use Rattle.h2_exchange.specs.Calls.{Answer, Answered, Closed, answers, are_in_place, calls}
+use Rattle.h2_exchange.specs.Content.{AreRead, Outcome}
+use Rattle.h2_exchange.specs.Exchange.{Step, received, sent}
+use Rattle.h2_exchange.specs.Outcomes.{AreKnown}
+use Rattle.h2_exchange.specs.Sending.{IsPrefix, ResetsErrors}
+use Rattle.h2_exchange.specs.StreamParts.{CarriesResponse}
+use Rattle.h2_exchange.specs.Stops.{events}
+use Rattle.schema_numbers.specs.Numbers.{Numbers}
+
+-- The calls that a server reads stand in their places, where it resets each stream that has an error.
+abbrev pub CallsStandInPlace : Type 0
+CallsStandInPlace =
+    (limits : H2Limits) (heads : List Outcome) (x : List Step) → ResetsErrors Server limits heads x →
+    are_in_place (calls (λ fields. method_by (head_of fields)) compressed too_long truncated (events Server limits heads x)) ≡ true
+
+abbrev message_on : ℕ → Answer GrpcStatus → List (List ℕ)
+message_on id (Answered stream message) = if stream == id then message ∷ [] else []
+message_on id other = []
+
+-- the messages that are answered on a stream
+abbrev pub answered_on : ℕ → List (Answer GrpcStatus) → List (List ℕ)
+answered_on id given = flat_map (message_on id) given
+
+-- Answers begin what a stream spells. A status that closes it is the one that is spelled, behind all messages, or UNKNOWN.
+pub record BeginWhatIsSpelled (id : ℕ) (given : List (Answer GrpcStatus)) (messages : List (List ℕ)) (end : Option CallEnd) : Type 0 where
+  pub front : IsPrefix (answered_on id given) messages
+  pub closed : (status : GrpcStatus) → Contains given (Closed id status) →
+      (status ≡ unknown) ⊎ ((end ≡ Some (Status status)) × (answered_on id given ≡ messages))
+
+-- What a client reads of a server's frames, of which it received the first ones, begins what those frames spell.
+abbrev pub ClientReadsFront : Type 0
+ClientReadsFront =
+    (n : Numbers) (limits : H2Limits) (x y : List Step) (heads : List (List Field)) (outcomes : List Outcome) →
+    (id : ℕ) (messages : List (List ℕ)) (rest : List ℕ) (end : Option CallEnd) →
+    IsPrefix (received y) (sent x) → AreRead (sent x) (map Ok heads) → AreKnown Client limits outcomes y → ResetsErrors Client limits outcomes y →
+    CarriesResponse response_fields (call_end_of n) heads (sent x) id messages rest end →
+    BeginWhatIsSpelled id (answers (λ fields. status_by (status_in_trailers n fields)) unknown (events Client limits outcomes y)) messages end
