@@ -79,7 +79,7 @@ fn refusal(code: u8, message: &'static [u8]) -> HeadRead
     })
 }
 
-// The value of the first field of a name.
+/// The value of the first field of a name.
 pub fn value<'a>(fields: &'a [Field], name: &[u8]) -> Option<&'a [u8]>
     ensures { option_copied result ≡ first_value name.now fields.now }
 {
@@ -175,6 +175,7 @@ fn is_unit(unit: &[u8]) -> bool
         || equal(unit, b"n")
 }
 
+/// Whether two texts are the same.
 pub fn equal(text: &[u8], other: &[u8]) -> bool
     ensures { result ≡ bytes_eq text.now other.now }
 {

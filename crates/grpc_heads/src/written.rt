@@ -168,6 +168,7 @@ fn any_bytes(alloc: Global, n: &Numbering, reason: ModifyReason) -> Result<Vec<u
     Ok(bytes)
 }
 
+/// The name of a reason's value.
 pub fn reason_name(reason: ModifyReason) -> ValueName
     ensures { result ≡ spec.reason_name reason }
 {

@@ -10,3 +10,4 @@ pub mod Begun
 pub mod Entire
 pub mod Drained
 pub mod Kept
+pub mod Sending

@@ -1,5 +1,5 @@
 -- What the frames of calls spell, on all streams together.
-use Rattle.std.specs.Prelude.{◌≡◌, ℕ, Bool, true, false, map, List, [], ◌++◌}
+use Rattle.std.specs.Prelude.{◌≡◌, ℕ, Bool, true, false, map, List, [], ◌++◌, None}
 use Rattle.std.specs.List.{All}
 use Rattle.grpc_heads.specs.declared.head.Method.{Method}
 use Rattle.grpc_heads.specs.Written.{response_fields}
@@ -9,13 +9,19 @@ use Rattle.h2_exchange.specs.declared.role.Role.{Role}
 use Rattle.h2_exchange.specs.declared.role.Role.TheVariants.{Client, Server}
 use Rattle.h2_exchange.specs.Calls.{Call, shown}
 use Rattle.h2_exchange.specs.Content.{Outcome}
-use Rattle.h2_exchange.specs.Exchange.{Step, collect, sent}
+use Rattle.h2_exchange.specs.Exchange.{Step, collect, received, sent}
+use Rattle.h2_exchange.specs.Order.{AreFrames, peer_preface}
+use Rattle.h2_exchange.specs.Stops.{Stop}
 use Rattle.h2_exchange.specs.Outcomes.{AreEnough}
 use Rattle.h2_exchange.specs.Outgoing.{SendsOnly}
-use Rattle.h2_exchange.specs.Streams.{is_begun, is_ended_by, is_reset}
+use Rattle.h2_exchange.specs.Streams.{is_begun, is_ended_by, is_live, is_reset}
 use Rattle.h2_exchange.specs.Requests.{RequestsBegin, RequestIs}
 use Rattle.h2_exchange.specs.StreamParts.{AnswersBegin, AnswersAre}
-use Rattle.h2_conn.specs.ConnectionTrace.{is_alive}
+use Rattle.h2_frames.specs.declared.frame.Frame.{Frame}
+use Rattle.h2_conn.specs.ConnectionTrace.{ConnectionTrace, IsSound, is_alive, stop_in, wrote}
+use Rattle.h2_conn.specs.Laws.{SendsIn}
+use Rattle.h2_conn.specs.Answers.{Stops}
+use Rattle.h2_conn.specs.Sends.{CarryReset}
 use Rattle.grpc_stream.specs.NextEvent.{shown_events_of}
 use Rattle.grpc_stream.specs.Sends.{Pumps}
 use Rattle.grpc_heads.specs.CallEnd.{CallEnd, call_end_of}
@@ -76,3 +82,24 @@ SendingIsKept =
     (role : Role) (limits : H2Limits) (heads more : List Outcome) (is_asked : List Step → ℕ → ErrorCode → Bool) (bytes rest : List ℕ) →
     (x : List Step) → AreEnough role limits heads x → SendsOnly role limits heads is_asked bytes rest x →
     SendsOnly role limits (heads ++ more) is_asked bytes rest x
+
+-- what a pump sends may be sent
+abbrev pub PumpsSend : Type 0
+PumpsSend =
+    (is_asked : List Step → ℕ → ErrorCode → Bool) (rest : List ℕ) (t u : CallTrace) (output : List ℕ) →
+    IsSoundCallTrace u output → Pumps t u → SendsIn is_asked rest t.connection_trace → SendsIn is_asked rest u.connection_trace
+
+-- and the reset of a live stream, where it is asked for
+abbrev pub ResetsSend : Type 0
+ResetsSend =
+    (is_asked : List Step → ℕ → ErrorCode → Bool) (rest : List ℕ) (c : ConnectionTrace) (id : ℕ) (why : ErrorCode) (fs : List Frame)
+    (output : List ℕ) → CarryReset id why fs → IsSound (wrote fs [] c) output → is_live c.role c.frames id ≡ true → is_asked c.frames id why ≡ true →
+    SendsIn is_asked rest c → SendsIn is_asked rest (wrote fs [] c)
+
+-- and the GOAWAY of a refusal, where what was sent before it may be, and this is what is left behind the received frames
+abbrev pub GoawaysSend : Type 0
+GoawaysSend =
+    (is_asked : List Step → ℕ → ErrorCode → Bool) (rest : List ℕ) (c d : ConnectionTrace) (stop : Stop) (output : List ℕ) →
+    IsSound d output → (refusal : Stops c stop d) →
+    (stop_in refusal.at ≡ None → AreFrames (peer_preface refusal.at.role) refusal.at.fed (received refusal.at.frames) rest) →
+    SendsIn is_asked rest refusal.at → SendsIn is_asked rest d

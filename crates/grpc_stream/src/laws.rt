@@ -1,5 +1,5 @@
 //! What the calls of a connection spell.
-ghost use Rattle.grpc_stream.specs.Laws.{AllIsAnswered, AllIsAsked, ClientsAsk, PumpedIsAnswered, PumpedIsAsked, SendingIsKept, ServersAnswer, ServersShow};
+ghost use Rattle.grpc_stream.specs.Laws.{AllIsAnswered, AllIsAsked, ClientsAsk, GoawaysSend, PumpedIsAnswered, PumpedIsAsked, PumpsSend, ResetsSend, SendingIsKept, ServersAnswer, ServersShow};
 
 use h2_exchange::laws::written_blocks_are_read;
 
@@ -58,4 +58,19 @@ pub fn pumped_is_asked()
 /// A side that sends only what it may does so whatever becomes known of further header blocks.
 pub fn sending_is_kept()
     ensures { SendingIsKept }
+{}
+
+/// What a pump sends may be sent.
+pub fn pumps_send()
+    ensures { PumpsSend }
+{}
+
+/// The reset of a live stream may be sent, where it is asked for.
+pub fn resets_send()
+    ensures { ResetsSend }
+{}
+
+/// The GOAWAY of a refusal may be sent, where what was sent before it may be.
+pub fn goaways_send()
+    ensures { GoawaysSend }
 {}
