@@ -1,15 +1,14 @@
 -- Statements that are not proved. No contract cites them.
-use Rattle.std.specs.Prelude.{◌≡◌, ◌⊎◌, ℕ, ◌==◌, true, map, List, [], ◌∷◌, Option, Some, Ok, if◌then◌else◌}
+use Rattle.std.specs.Prelude.{◌≡◌, ◌⊎◌, ℕ, ◌==◌, map, List, [], ◌∷◌, Option, Some, Ok, if◌then◌else◌}
 use Rattle.std.specs.List.{Contains, flat_map}
-use Rattle.grpc_heads.specs.CallEnd.{CallEnd, Status, call_end_of, compressed, method_by, status_by, too_long, truncated, unknown}
+use Rattle.grpc_heads.specs.CallEnd.{CallEnd, Status, call_end_of, status_by, unknown}
 use Rattle.grpc_heads.specs.GrpcStatus.{GrpcStatus}
-use Rattle.grpc_heads.specs.Heads.{head_of}
 use Rattle.grpc_heads.specs.Trailers.{status_in_trailers}
 use Rattle.grpc_heads.specs.Written.{response_fields}
 use Rattle.hpack_tables.specs.declared.field.Field.{Field}
 use Rattle.h2_exchange.specs.declared.limits.H2Limits.{H2Limits}
-use Rattle.h2_exchange.specs.declared.role.Role.TheVariants.{Client, Server}
-use Rattle.h2_exchange.specs.Calls.{Answer, Answered, Closed, answers, are_in_place, calls}
+use Rattle.h2_exchange.specs.declared.role.Role.TheVariants.{Client}
+use Rattle.h2_exchange.specs.Calls.{Answer, Answered, Closed, answers}
 use Rattle.h2_exchange.specs.Content.{AreRead, Outcome}
 use Rattle.h2_exchange.specs.Exchange.{Step, received, sent}
 use Rattle.h2_exchange.specs.Outcomes.{AreKnown}
@@ -17,12 +16,6 @@ use Rattle.h2_exchange.specs.Sending.{IsPrefix, ResetsErrors}
 use Rattle.h2_exchange.specs.StreamParts.{CarriesResponse}
 use Rattle.h2_exchange.specs.Stops.{events}
 use Rattle.schema_numbers.specs.Numbers.{Numbers}
-
--- The calls that a server reads stand in their places, where it resets each stream that has an error.
-abbrev pub CallsStandInPlace : Type 0
-CallsStandInPlace =
-    (limits : H2Limits) (heads : List Outcome) (x : List Step) → ResetsErrors Server limits heads x →
-    are_in_place (calls (λ fields. method_by (head_of fields)) compressed too_long truncated (events Server limits heads x)) ≡ true
 
 abbrev message_on : ℕ → Answer GrpcStatus → List (List ℕ)
 message_on id (Answered stream message) = if stream == id then message ∷ [] else []

@@ -18,7 +18,7 @@ use Rattle.h2_exchange.specs.Frames.{stream_of, is_window_update, increment_of, 
 use Rattle.h2_exchange.specs.Order.{Piece, received_bytes, sent_bytes, end_of, peer_preface, own_preface, InOrder, IsExchange}
 use Rattle.h2_exchange.specs.Outcomes.{AreEnough, AreKnown, IsReadExchange}
 use Rattle.h2_exchange.specs.Outgoing.{MaySend, HasPlace, SendsOnly}
-use Rattle.h2_exchange.specs.Sending.{IsPrefix}
+use Rattle.h2_exchange.specs.Sending.{IsPrefix, ResetsErrors}
 use Rattle.h2_exchange.specs.StreamParts.{Item, IsPrefixOf, IsAllOf}
 use Rattle.h2_exchange.specs.Stops.{Stop, stop_at, stop_of, events}
 use Rattle.h2_exchange.specs.Streams.{begins, is_begun, is_over}
@@ -125,8 +125,10 @@ pub record OrderIsKept : Type 0 where
   pub more : (role : Role) (ps : List Piece) (x more : List Step) → length (sent_bytes ps) ≤ length (own_preface role ++ sent_text x) →
       InOrder role ps x → InOrder role ps (x ++ more)
 
--- the calls that an exchange spells stand in their places
+-- The calls that an exchange spells stand in their places, where each stream error is answered by the reset of its stream: without
+-- that a call could be dropped twice. Stated, not proved.
 abbrev pub CallsAreInPlace : Type 0 → Type 0 → Type 0
 CallsAreInPlace M E =
     (limits : H2Limits) (heads : List Outcome) (x : List Step) (method_of : List Field → Result M E) (compressed too_long truncated : E) →
+    ResetsErrors Server limits heads x →
     are_in_place (calls method_of compressed too_long truncated (events Server limits heads x)) ≡ true
