@@ -90,7 +90,6 @@ impl Device for MemDevice {
         ensures faults { CountsAnswer self.old.faults self.new.faults (result ≡ Act.Failed) }
         ensures dones { CountsAnswer self.old.dones self.new.dones (result ≡ Act.Done) }
         ensures exact { InstallsBy self.old.failing self.old.calls result self.old.refused self.new.refused }
-        ensures placed { result ≡ Act.Done → self.new.contents ≡ placed entry.now self.old.contents }
         ensures calls { self.new.calls ≡ counted self.old.calls }
         ensures failing { self.new.failing ≡ self.old.failing }
     {
@@ -115,7 +114,6 @@ impl Device for MemDevice {
         ensures faults { CountsAnswer self.old.faults self.new.faults (result ≡ Act.Failed) }
         ensures dones { CountsAnswer self.old.dones self.new.dones (result ≡ Act.Done) }
         ensures exact { RemovesBy self.old.failing self.old.calls result }
-        ensures without { result ≡ Act.Done → self.new.contents ≡ without key.now self.old.contents }
         ensures calls { self.new.calls ≡ counted self.old.calls }
         ensures same { (self.new.failing ≡ self.old.failing) × (self.new.refused ≡ self.old.refused) }
     {
