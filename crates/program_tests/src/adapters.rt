@@ -1,7 +1,9 @@
-use gribi_program::{ReaderSource, WriterSink};
-use rig_io::{Placed, Sink, Source, Took};
+use gribi_program::{ReaderSource, SystemClock, WriterSink};
+use rig_io::{Clock, Placed, Sink, Source, Took};
 use std::io::{self, Cursor, Read, Write};
+use std::sync::atomic::{AtomicBool, Ordering};
 use std::test::Fail;
+use std::time::{self, Duration};
 
 /// A reader and writer that always fails.
 #[derive(Drop)]
@@ -57,5 +59,50 @@ fn writers_are_sinks(rt: HostRuntime) -> Result<(), Fail> {
     assert_eq!(rt; three.put(b"d"), Placed::Failed);
     assert_eq!(rt; WriterSink::new(Broken).put(b"a"), Placed::Failed);
     assert_eq!(rt; WriterSink::new(Unflushed).put(b"a"), Placed::Failed);
+    Ok(())
+}
+
+/// A system's clock that stands at this time, and can't be read where it is told to fail.
+#[derive(Clone, Copy)]
+struct StandingClock<'a> {
+    time: Duration,
+    fails: &'a AtomicBool,
+}
+
+impl<'a> time::Clock for StandingClock<'a> {
+    fn monotonic(&self) -> io::Result<Duration> {
+        Ok(self.time)
+    }
+
+    fn since_1970(&self) -> io::Result<Duration> {
+        if self.fails.load(Ordering::SeqCst) {
+            Err(io::Error::from(io::ErrorKind::Other))
+        } else {
+            Ok(self.time)
+        }
+    }
+}
+
+#[test]
+fn a_moment_stays_where_the_clock_fails(rt: HostRuntime) -> Result<(), Fail> {
+    let fails = AtomicBool::new(false);
+    let time = Duration::from_nanos(7);
+    let mut clock = SystemClock::new(StandingClock {
+        time,
+        fails: &fails,
+    });
+    assert_eq!(rt; clock.now(), 7);
+    fails.store(true, Ordering::SeqCst);
+    assert_eq!(rt; clock.now(), 7);
+    assert_eq!(rt; clock.twin().now(), 7);
+    let time = Duration::from_secs(1 << 40);
+    let fails = AtomicBool::new(false);
+    let mut late = SystemClock::new(StandingClock {
+        time,
+        fails: &fails,
+    });
+    assert_eq!(rt; late.now(), 0);
+    // 2020 is over.
+    assert!(rt; SystemClock::new(&rt).now() > 1_577_836_800_000_000_000);
     Ok(())
 }

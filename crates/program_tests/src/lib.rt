@@ -8,6 +8,8 @@ mod apply_streams;
 #[cfg(test)]
 mod chunked_source;
 #[cfg(test)]
+mod long_run;
+#[cfg(test)]
 mod message_streams;
 #[cfg(test)]
 mod program_runs;
