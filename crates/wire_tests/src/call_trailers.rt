@@ -11,6 +11,10 @@ const SIXTEEN: Pair = (b"grpc-status", b"16");
 const NOT_ALLOWED: &[u8] =
     b"CAkaNQovdHlwZS5nb29nbGVhcGlzLmNvbS9ncmliaS5Nb2RpZnlSUENFcnJvckRldGFpbHMSAggC";
 
+// The same, with a byte inside that is none of base64.
+const BROKEN: &[u8] =
+    b"CAkaNQovdHlwZS5nb29nbGVhcGlzLmNvbS9*cmliaS5Nb2RpZnlSUENFcnJvckRldGFpbHMSAggC";
+
 const REFUSED: &[u8] =
     b"grpc-status=9;grpc-status-details-bin=CAkaNQovdHlwZS5nb29nbGVhcGlzLmNvbS9ncmliaS5Nb2RpZnlSUENFcnJvckRldGFpbHMSAggC;";
 
@@ -109,6 +113,10 @@ const READ: &[(&[Pair], (u16, usize, Option<ModifyReason>))] = &[
     ),
     (
         &[SIXTEEN, (b"grpc-status-details-bin", b"CAk")],
+        (16, 0, None),
+    ),
+    (
+        &[SIXTEEN, (b"grpc-status-details-bin", BROKEN)],
         (16, 0, None),
     ),
 ];

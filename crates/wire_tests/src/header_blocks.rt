@@ -131,8 +131,12 @@ fn names_and_values(rt: HostRuntime) {
     assert!(rt; are_marked());
 }
 
-// An answer's head and trailers.
+// A request's head, and an answer's head and trailers.
 const PLAIN: Blocks = &[
+    (
+        REQUEST,
+        b"\x83\x86\x04\x13/gribi.gRIBI/Modify\x01\x0fwww.example.com\x0f\x10\x10application/grpc\x00\x02te\x08trailers",
+    ),
     (
         b"\x88\x5f\x10application/grpc",
         b"\x88\x0f\x10\x10application/grpc",
@@ -180,38 +184,57 @@ fn written(
     Ok(out)
 }
 
+// Whether a draft has this text; it is kept.
+fn is_drafted(encoder: &mut HeaderEncoder, fields: &Fields, text: &[u8]) -> Result<bool, AllocError>
+    requires { sum_by size_of fields.now ≤ 65536 }
+{
+    let draft = encoder.draft(fields)?;
+    let is_right = draft.text() == text;
+    encoder.keep(draft);
+    Ok(is_right)
+}
+
 fn is_written(
     alloc: Global,
     encoder: &mut HeaderEncoder,
+    by_draft: bool,
     read: &Result<Fields, HpackFault>,
     text: &[u8],
 ) -> Result<bool, AllocError>
     requires { IfOk read.now (λ fields. sum_by size_of fields ≤ 65536) }
 {
     match read {
+        Ok(fields) if by_draft => is_drafted(encoder, fields, text),
         Ok(fields) => Ok(written(alloc, encoder, fields)?.get(1..) == Some(text)),
         Err(_) => Ok(false),
     }
 }
 
 // Whether one encoder, which is told a size first, writes the fields of the blocks so.
-fn rewrites(alloc: Global, style: Style, size: u32, blocks: Blocks) -> Result<bool, AllocError> {
+fn rewrites(
+    alloc: Global,
+    style: Style,
+    size: u32,
+    by_draft: bool,
+    blocks: Blocks,
+) -> Result<bool, AllocError> {
     let mut decoder = HeaderDecoder::new(alloc, 4096)?;
     let mut encoder = HeaderEncoder::new(alloc, style)?;
     encoder.limit(size);
     let mut is_right = true;
     for (block, text) in blocks {
         let read = decoder.block(block);
-        is_right &= is_written(alloc, &mut encoder, &read, text)?;
+        is_right &= is_written(alloc, &mut encoder, by_draft, &read, text)?;
     }
     Ok(is_right)
 }
 
 #[test]
 fn blocks_are_written(rt: HostRuntime) -> Result<(), Fail> {
-    assert!(rt; rewrites(rt.alloc(), Style::Plain, 4096, PLAIN)?);
-    assert!(rt; rewrites(rt.alloc(), Style::Plain, 0, LOWERED)?);
-    assert!(rt; rewrites(rt.alloc(), Style::Indexed, 5000, INDEXED)?);
-    assert!(rt; rewrites(rt.alloc(), Style::Indexed, 40, LARGER)?);
+    assert!(rt; rewrites(rt.alloc(), Style::Plain, 4096, false, PLAIN)?);
+    assert!(rt; rewrites(rt.alloc(), Style::Plain, 0, false, LOWERED)?);
+    assert!(rt; rewrites(rt.alloc(), Style::Indexed, 5000, false, INDEXED)?);
+    assert!(rt; rewrites(rt.alloc(), Style::Indexed, 5000, true, INDEXED)?);
+    assert!(rt; rewrites(rt.alloc(), Style::Indexed, 40, false, LARGER)?);
     Ok(())
 }

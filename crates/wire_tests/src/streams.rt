@@ -1,3 +1,6 @@
+ghost use Rattle.std.specs.Prelude.{◌≡◌, ◌<◌};
+ghost use Rattle.h2_exchange.specs.declared.role.Role.TheVariants.{Client};
+
 use bytes::Bytes;
 use h2_frames::{FrameNext, FrameReader};
 use h2_streams::{H2Limits, Role, StreamFault, StreamSet};
@@ -43,6 +46,37 @@ fn a_client_begins_sends_and_finishes(rt: HostRuntime) -> Result<(), Fail> {
     finish(&mut set, 3);
     set.reset(1);
     assert!(rt; are_over(&set));
+    Ok(())
+}
+
+// Whether ten streams begin, from this id on.
+fn begins_ten(set: &mut StreamSet, first: u32) -> bool
+    requires role { set.old.role ≡ Client }
+    requires first { first < 1000 }
+    ensures { set.new.role ≡ Client }
+{
+    let mut is_right = set.begin() == Ok(first);
+    is_right &= set.begin() == Ok(first + 2);
+    is_right &= set.begin() == Ok(first + 4);
+    is_right &= set.begin() == Ok(first + 6);
+    is_right &= set.begin() == Ok(first + 8);
+    is_right &= set.begin() == Ok(first + 10);
+    is_right &= set.begin() == Ok(first + 12);
+    is_right &= set.begin() == Ok(first + 14);
+    is_right &= set.begin() == Ok(first + 16);
+    is_right & (set.begin() == Ok(first + 18))
+}
+
+#[test]
+fn a_client_begins_more_than_fifty_streams(rt: HostRuntime) -> Result<(), Fail> {
+    let mut set = StreamSet::new(rt.alloc(), Role::Client, LIMITS)?;
+    let mut is_right = begins_ten(&mut set, 1);
+    is_right &= begins_ten(&mut set, 21);
+    is_right &= begins_ten(&mut set, 41);
+    is_right &= begins_ten(&mut set, 61);
+    is_right &= begins_ten(&mut set, 81);
+    is_right &= begins_ten(&mut set, 101);
+    assert!(rt; is_right && set.count() == 60 && set.highest() == 119 && set.is_open(119));
     Ok(())
 }
 
@@ -109,6 +143,51 @@ fn takes_frames(alloc: Global) -> Result<bool, AllocError> {
 #[test]
 fn a_server_takes_frames(rt: HostRuntime) -> Result<(), Fail> {
     assert!(rt; takes_frames(rt.alloc())?);
+    Ok(())
+}
+
+// The frames that a server receives, and of their stream: its place, whether it was live, had a head, and is live then.
+const MET: &[(&[u8], (usize, bool, bool, bool))] = &[
+    (b"\0\0\0\x04\0\0\0\0\0", (0, false, false, false)),
+    (b"\0\0\0\x01\x04\0\0\0\x01", (0, false, false, true)),
+    (b"\0\0\0\x01\0\0\0\0\x03", (1, false, false, true)),
+    (b"\0\0\0\x09\x04\0\0\0\x03", (1, true, false, true)),
+    (
+        b"\0\0\x04\x03\0\0\0\0\x01\0\0\0\x08",
+        (0, true, true, false),
+    ),
+    (b"\0\0\x02\0\0\0\0\0\x03ab", (0, true, true, true)),
+    (b"\0\0\x01\0\0\0\0\0\x01a", (1, false, false, false)),
+];
+
+fn meet(set: &mut StreamSet, next: &FrameNext) -> (usize, bool, bool, bool) {
+    let FrameNext::Frame(frame) = next else {
+        return (99, false, false, false);
+    };
+    let (_, seen) = set.on_frame_seen(frame);
+    (seen.place, seen.was_live, seen.had_head, seen.is_live)
+}
+
+fn is_owed(set: &StreamSet) -> bool {
+    let all = set.owed_credit() == 983_041 + 3 && set.owed_credit_on(3) == 2;
+    all && set.owed_credit_at(0) == Some((3, 2))
+        && set.id_at(0) == Some(3)
+        && set.id_at(1).is_none()
+}
+
+fn are_met(alloc: Global) -> Result<bool, AllocError> {
+    let mut set = StreamSet::new(alloc, Role::Server, LIMITS)?;
+    let mut is_right = true;
+    for (text, wanted) in MET {
+        let next = read(alloc, text)?;
+        is_right &= meet(&mut set, &next) == *wanted;
+    }
+    Ok(is_right && is_owed(&set))
+}
+
+#[test]
+fn a_frame_meets_its_stream(rt: HostRuntime) -> Result<(), Fail> {
+    assert!(rt; are_met(rt.alloc())?);
     Ok(())
 }
 
