@@ -1,12 +1,12 @@
 -- The examples compute.
 use Rattle.std.proofs.Common.{◌≡◌, true, false, ℕ, List, [], length, take, refl, ap, arith, inl, inr}
-use Rattle.std.specs.Prelude.{slice_index}
+use Rattle.std.specs.Prelude.{slice_index, codes}
 use Rattle.h2_frames.specs.declared.code.TheConstants.ErrorCode as code
 use Rattle.h2_frames.specs.Stream.{preface}
 use Rattle.grpc_framing.specs.Framing.{item_at, front_at, messages_upto, messages_of}
 use Rattle.h2_exchange.specs.Samples.{request, response, trailers, head}
 use Rattle.h2_exchange.specs.Outgoing as may
-use Rattle.h2_exchange.specs.Examples.{LoweredWindow, FirstFrames, StreamLife, RefusedStream, StreamNumbers, SecondHead, Stops, RestStops, BlockLimits, CutRequests, bad_preface, QuietFrames, BadHeads, CallsOfEvents, AnswersOfEvents, FullServer, Responses, Requests, LastStreams, SentFrames, asked}
+use Rattle.h2_exchange.specs.Examples.{LoweredWindow, FirstFrames, StreamLife, RefusedStream, StreamNumbers, SecondHead, Stops, RestStops, BlockLimits, CutRequests, bad_preface, QuietFrames, BadHeads, CallsOfEvents, AnswersOfEvents, FullServer, Responses, Requests, LastStreams, SentFrames, asked, status_alone}
 
 pub lowered_window : LoweredWindow
 lowered_window = record { ten = refl; below_zero = refl; nothing = refl; five = refl }
@@ -78,6 +78,9 @@ no_lie e = cc
 other_length : trailers ≡ response → ⊥
 other_length e = let n : 1 ≡ 2 = ap length e in omega (arith, n)
 
+one_field : status_alone (codes "405") ≡ response → ⊥
+one_field e = let n : 1 ≡ 2 = ap length e in omega (arith, n)
+
 pub responses : Responses
 responses = record {
   whole = (refl, ([], refl, (refl, refl, refl, tt)));
@@ -85,6 +88,9 @@ responses = record {
   unfinished = (refl, ([], refl, (refl, refl)));
   reset = (refl, ([], refl, (refl, refl)));
   head_alone = (refl, refl, refl, tt);
+  wrong_method = (refl, refl, refl, tt);
+  wrong_type = (refl, refl, refl, tt);
+  not_ended = λ h. one_field h.0;
   other_stream = refl;
   no_head = λ h. other_length h.0;
   behind_the_end = λ h. h.3;

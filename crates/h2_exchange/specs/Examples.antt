@@ -8,6 +8,7 @@ use Rattle.h2_frames.specs.declared.frame.FrameBody.{FrameBody}
 use Rattle.h2_frames.specs.Layout.{frame_text}
 use Rattle.h2_frames.specs.Stream.{preface}
 use Rattle.hpack_tables.specs.declared.fault.HpackFault.TheVariants as fault
+use Rattle.hpack_tables.specs.declared.field.Field.{Field}
 use Rattle.h2_exchange.specs.declared.limits.CalmCause.TheVariants as cause
 use Rattle.h2_exchange.specs.declared.role.Role.TheVariants.{Client, Server}
 use Rattle.h2_exchange.specs.Blocks.{Block}
@@ -223,13 +224,21 @@ pub record AnswersOfEvents : Type 0 where
   pub flag : answers (λ fields. length fields) 2 (Head 1 response false ∷ Data 1 (1 ∷ []) ∷ Data 1 (0 ∷ []) ∷ Head 1 trailers true ∷ []) ≡ Broken 1 ∷ []
   pub no_trailers : answers (λ fields. length fields) 2 (Head 1 response false ∷ Ended 1 ∷ []) ≡ Closed 1 2 ∷ []
 
--- What a client reads of a response: a head, DATA and trailers, where a reset may follow them; and what begins no response.
+-- a status of HTTP alone
+abbrev pub status_alone : List ℕ → List Field
+status_alone status = field (codes ":status") status ∷ []
+
+-- What a client reads of a response: a head, DATA and trailers, where a reset may follow them; a status of HTTP alone, which
+-- ends the stream too; and what begins no response.
 pub record Responses : Type 0 where
   pub whole : IsResponse response (parts 1 (response ∷ trailers ∷ []) (head ∷ thirty_bytes ∷ last_head ∷ [])) (replicate 30 7) (Trailers trailers)
   pub then_reset : IsResponse response (parts 1 (response ∷ trailers ∷ []) (head ∷ thirty_bytes ∷ last_head ∷ cancel ∷ [])) (replicate 30 7) (Trailers trailers)
   pub unfinished : IsResponse response (parts 1 (response ∷ []) (head ∷ thirty_bytes ∷ [])) (replicate 30 7) Unclosed
   pub reset : IsResponse response (parts 1 (response ∷ []) (head ∷ thirty_bytes ∷ cancel ∷ [])) (replicate 30 7) WasReset
   pub head_alone : IsResponse response (parts 1 (trailers_only ∷ []) (last_head ∷ [])) [] (Trailers trailers_only)
+  pub wrong_method : IsResponse response (parts 1 (status_alone (codes "405") ∷ []) (last_head ∷ [])) [] (Trailers (status_alone (codes "405")))
+  pub wrong_type : IsResponse response (parts 1 (status_alone (codes "415") ∷ []) (last_head ∷ [])) [] (Trailers (status_alone (codes "415")))
+  pub not_ended : IsResponse response (parts 1 (status_alone (codes "405") ∷ []) (head ∷ [])) [] Unclosed → ⊥
   pub other_stream : parts 3 (response ∷ []) (head ∷ thirty_bytes ∷ []) ≡ []
   pub no_head : IsResponse response (parts 1 (trailers ∷ []) (head ∷ thirty_bytes ∷ [])) (replicate 30 7) Unclosed → ⊥
   pub behind_the_end : IsResponse response (parts 1 (trailers_only ∷ []) (last_head ∷ thirty_bytes ∷ [])) [] (Trailers trailers_only) → ⊥
