@@ -14,6 +14,8 @@ mod flush_messages;
 #[cfg(test)]
 mod get_messages;
 #[cfg(test)]
+mod links;
+#[cfg(test)]
 mod message_values;
 #[cfg(test)]
 mod modify_requests;
