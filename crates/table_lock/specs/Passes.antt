@@ -54,11 +54,13 @@ module _ {C R G : Type 0} (lawful : G → List (Entry C R) → Type 0) (setup : 
     pub legal : lawful setup p.seen
     pub own : calls_of p.number p.seen ≡ p.mine
 
-  -- what happened to a pass over any number of calls: its history went on, and these calls of its own were added
+  -- What happened to a pass over any number of calls: its history went on, and these calls of its own were added. The ticket that it
+  -- looked at last is the one of before, or one that was drawn for a call: so after a call that was Spent it is one of before.
   pub record IsExtended (p q : PassView C R G) (calls : List (Entry C R)) : Type 0 where
     pub seen : IsPrefix p.seen q.seen
     pub mine : q.mine ≡ p.mine ++ calls
     pub sound : IsSound q
+    pub ticket : (q.ticket ≡ p.ticket) ⊎ (q.ticket < 2 ^ 62)
     pub same : (q.table ≡ p.table) × (q.setup ≡ p.setup) × (q.number ≡ p.number)
 
   -- the call stands at the end of one lawful history, which begins with all that the pass had seen and has its own calls and no others of it
