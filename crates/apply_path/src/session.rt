@@ -1,7 +1,6 @@
-ghost use Rattle.std.specs.Prelude.{◌≡◌, ◌+◌, ◌<◌, ◌≤◌, ◌^◌, ◌++◌, ◌∷◌, [], ℕ, List, length, map, pos, IfOk};
+ghost use Rattle.std.specs.Prelude.{◌≡◌, ◌+◌, ◌<◌, ◌≤◌, ◌^◌, ◌∷◌, [], List, map, pos, IfOk};
 ghost use Rattle.table_model.specs.Event.{Event};
 ghost use Rattle.call_answers.specs.Orders.{commands_of, operation_at, orders_of};
-ghost use Rattle.apply_path.specs.Responses.{config_of};
 ghost use Rattle.apply_path.specs.SessionAt.{CoreAt, RunsCommands, HandlesFault, Begun, params_commands, election_commands, header_commands};
 
 use crate::step::{

@@ -1,4 +1,4 @@
-ghost use Rattle.std.specs.Prelude.{◌≡◌};
+ghost use Rattle.std.specs.Prelude.{◌≡◌, pos};
 
 use rig_io::Clock;
 use std::time;
@@ -14,7 +14,7 @@ pub struct SystemClock<R> {
 impl<R: time::Clock + Copy + Send + Drop> SystemClock<R> {
     /// A clock that has not been read.
     pub fn new(system: R) -> Self
-        ensures { (result.system ≡ system) × (result.last ≡ 0) }
+        ensures { (result.system ≡ system) × (result.last ≡ pos 0) }
     {
         SystemClock { system, last: 0 }
     }

@@ -1,5 +1,5 @@
 -- What a connection was used for. No connection stores it: each call carries it on.
-use Rattle.std.specs.Prelude.{◌≡◌, ℕ, ◌<◌, ◌≤◌, Bool, false, not, map, is_some, All, List, [], ◌∷◌, ◌++◌, length, Option, Some, None}
+use Rattle.std.specs.Prelude.{◌≡◌, ℕ, ◌<◌, ◌≤◌, Bool, false, not, map, is_some, All, List, [], ◌∷◌, ◌++◌, length, Option, None}
 use Rattle.std.specs.List.{flat_map}
 use Rattle.h2_frames.specs.declared.frame.Frame.{Frame}
 use Rattle.h2_frames.specs.Layout.{frame_text}

@@ -1,4 +1,4 @@
-ghost use Rattle.std.specs.Prelude.{◌≡◌, ◌+◌, ◌<◌, ◌≤◌, length, true, false};
+ghost use Rattle.std.specs.Prelude.{◌≡◌, ◌<◌, true, false};
 ghost use Rattle.rig_io.specs.Fault.{HasCause, StaysUnless};
 ghost use Rattle.message_run.specs.Written.{Wrote, WrotePart};
 

@@ -2,7 +2,7 @@ ghost use Rattle.std.specs.Prelude.{◌≡◌, ◌⊎◌, ◌+◌, ◌<◌, ◌�
 ghost use Rattle.rig_io.specs.Fault.{HasCause, StaysUnless};
 ghost use Rattle.message_run.specs.Outcomes.{Close, trailer as trailer_spec};
 ghost use Rattle.message_run.specs.Reading.{Stopped, close_of, stop_at as stop_said};
-ghost use Rattle.message_run.specs.Runs.{Told, Runs, RunsOver, IsStatus, told};
+ghost use Rattle.message_run.specs.Runs.{Runs, RunsOver, IsStatus, told};
 ghost use Rattle.message_run.specs.Written.{Wrote, WrotePart};
 ghost use Rattle.message_run.specs.declared.stop.Stop.TheVariants.{ReadFault, WriteFault};
 
