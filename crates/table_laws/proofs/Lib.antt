@@ -2,6 +2,7 @@ pub mod RibHolds
 pub mod Refused
 pub mod Chains
 pub mod RibLaws
+mod KnownInstances
 pub mod Acknowledged
 pub mod ElectionLaws
 pub mod Ascending

@@ -45,10 +45,10 @@ pub verdict_refusal : (config : Config) (past : List Event) (session : ℕ) (ope
 unfolding verdict
 verdict_refusal config past session operation h = by_reasons (not (is_primary past session)) (not (is_same_id operation.election (highest past))) NotPrimary ElectionIdDiffers (refusal config.instances config.limit (rib past) operation.ask) h
 
-module _ (Q : List Entry → Type 0) (empty : Q []) (performs : (instances limit : ℕ) (table : List Entry) (ask : Ask) → refusal instances limit table ask ≡ None → is_well_formed_ask ask ≡ true → Q table → Q (performed ask table)) (flushes : (table : List Entry) (which : Which) → Q table → Q (kept table which)) where
-  module _ (config : Config) (past : List Event) (holds : Q (rib past)) where
+module _ (config : Config) (Q : List Entry → Type 0) (empty : Q []) (performs : (table : List Entry) (ask : Ask) → refusal config.instances config.limit table ask ≡ None → is_well_formed_ask ask ≡ true → Q table → Q (performed ask table)) (flushes : (table : List Entry) (which : Which) → Q table → Q (kept table which)) where
+  module _ (past : List Event) (holds : Q (rib past)) where
     operate_holds : (session : ℕ) (operation : Operation) (now : ℤ) (r : Reply) → r ≡ reply_to config past (Operate session operation now) → is_well_formed_ask operation.ask ≡ true → Q (cond (is_done r) (performed operation.ask (rib past)) (rib past))
-    operate_holds session operation now reply.RibDone told formed = performs config.instances config.limit (rib past) operation.ask (verdict_refusal config past session operation (done_verdict config past session operation now (sym told))) formed holds
+    operate_holds session operation now reply.RibDone told formed = performs (rib past) operation.ask (verdict_refusal config past session operation (done_verdict config past session operation now (sym told))) formed holds
     operate_holds session operation now _ told formed = holds
 
     leave_holds : (b : Bool) → Q (cond b [] (rib past))
@@ -77,6 +77,6 @@ module _ (Q : List Entry → Type 0) (empty : Q []) (performs : (instances limit
   unfolding rib
   empty_holds = empty
 
-  pub rib_holds : (config : Config) (past : List Event) → IsLawful config past → Q (rib past)
-  rib_holds config [] lawful = empty_holds
-  rib_holds config (e ∷ past) lawful = step_holds config past (rib_holds config past lawful.1) e.command e.reply lawful.0 lawful.2
+  pub rib_holds : (past : List Event) → IsLawful config past → Q (rib past)
+  rib_holds [] lawful = empty_holds
+  rib_holds (e ∷ past) lawful = step_holds past (rib_holds past lawful.1) e.command e.reply lawful.0 lawful.2

@@ -39,7 +39,7 @@ closed_performed instances limit table (Remove key) h formed closed = closed_tak
 closed_performed instances limit table (Bad reason) h formed closed = closed
 
 pub closed : (config : Config) → RibIsClosed config
-closed config = rib_holds (λ table. is_closed table ≡ true) refl closed_performed kept_closed config
+closed config = rib_holds config (λ table. is_closed table ≡ true) refl (closed_performed config.instances config.limit) kept_closed
 
 in_order_performed : (instances limit : ℕ) (table : List Entry) (ask : Ask) → refusal instances limit table ask ≡ None → is_well_formed_ask ask ≡ true → in_order table ≡ true → in_order (performed ask table) ≡ true
 in_order_performed instances limit table (Put entry replace) h formed sorted = in_order_put entry table sorted
@@ -51,7 +51,7 @@ unfolding kept
 in_order_kept table which sorted = in_order_filter _ table sorted
 
 pub sorted : (config : Config) → RibIsInOrder config
-sorted config = rib_holds (λ table. in_order table ≡ true) in_order_empty in_order_performed in_order_kept config
+sorted config = rib_holds config (λ table. in_order table ≡ true) in_order_empty (in_order_performed config.instances config.limit) in_order_kept
 
 shallow_performed : (instances limit : ℕ) (table : List Entry) (ask : Ask) → refusal instances limit table ask ≡ None → is_well_formed_ask ask ≡ true → is_shallow table ≡ true → is_shallow (performed ask table) ≡ true
 shallow_performed instances limit table (Put entry replace) h formed short = shallow_put entry table (put_shallow instances limit table entry replace h) short
@@ -63,7 +63,7 @@ unfolding is_shallow
 shallow_empty = refl
 
 pub shallow : (config : Config) → ChainsAreShort config
-shallow config = rib_holds (λ table. is_shallow table ≡ true) shallow_empty shallow_performed shallow_kept config
+shallow config = rib_holds config (λ table. is_shallow table ≡ true) shallow_empty (shallow_performed config.instances config.limit) shallow_kept
 
 -- each entry's payload is of its key's kind
 abbrev pub is_formed_entry : Entry → Bool
@@ -79,7 +79,7 @@ unfolding kept
 formed_kept table which all = all_filter is_formed_entry _ table all
 
 pub formed : (config : Config) (past : List Event) → IsLawful config past → list_all is_formed_entry (rib past) ≡ true
-formed config = rib_holds (λ table. list_all is_formed_entry table ≡ true) refl formed_performed formed_kept config
+formed config = rib_holds config (λ table. list_all is_formed_entry table ≡ true) refl (formed_performed config.instances config.limit) formed_kept
 
 -- What changes it.
 

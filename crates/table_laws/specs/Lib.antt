@@ -5,3 +5,4 @@ pub mod CollectedResults
 pub mod InFlight
 pub mod Succeeds
 pub mod DoneAnswers
+pub mod KnownInstances

@@ -29,6 +29,7 @@ pub use jobs::{
     reports_give_fib, results_are_answered_once, results_are_of_done_jobs, succeeds_without_faults,
 };
 pub use rib::{
-    chains_are_short, done_is_there, done_where_due, equal_lookups, events_are_lawful,
-    rib_changes_by_these, rib_is_closed, rib_is_in_order, too_deep_is_not_shallow,
+    chains_are_short, done_is_there, done_where_due, entries_have_known_instances, equal_lookups,
+    events_are_lawful, rib_changes_by_these, rib_is_closed, rib_is_in_order,
+    selected_rows_are_known, too_deep_is_not_shallow,
 };

@@ -6,6 +6,7 @@ ghost use Rattle.table_model.specs.Event.{Event, events};
 ghost use Rattle.table_model.specs.Laws.{RibIsClosed, RibIsInOrder, ChainsAreShort, RibChangesByThese, DoneWhereDue, DoneIsThere};
 ghost use Rattle.table_model.specs.Legal.{Legal, IsLawful};
 ghost use Rattle.table_model.specs.Table.{lookup, in_order, is_shallow, is_too_deep, put};
+ghost use Rattle.table_laws.specs.KnownInstances.{EntriesHaveKnownInstances, SelectedRowsAreKnown, AnsweredRowsAreKnown};
 
 /// The events of a legal record are a lawful history: each is answered as the server with one thread does.
 pub fn events_are_lawful()
@@ -25,6 +26,17 @@ pub fn rib_is_closed()
 /// At each event no chain of backups comes back to itself or has more than four groups.
 pub fn chains_are_short()
     ensures { (config : Config) → ChainsAreShort config }
+{}
+
+/// At each event the instances that an entry names, its key's and that of a route's group, are of the configured ones.
+pub fn entries_have_known_instances()
+    ensures { (config : Config) → EntriesHaveKnownInstances config }
+{}
+
+/// At each event the rows that a Select selects, and so those that it answers, name instances of the configured ones.
+pub fn selected_rows_are_known()
+    ensures selected { (config : Config) → SelectedRowsAreKnown config }
+    ensures answered { (config : Config) → AnsweredRowsAreKnown config }
 {}
 
 /// A group is refused as too deep exactly where the table with it would have a chain that comes back to itself or has
