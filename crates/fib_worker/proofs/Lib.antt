@@ -1,0 +1,4 @@
+pub mod Works
+mod Outs
+mod Shards
+mod Reported
