@@ -1,8 +1,10 @@
 -- What a worker's report leaves of its shard, and a job from its Take to its report.
 use Rattle.std.proofs.Common.{◌≡◌, ◌≢◌, ℕ, ℤ, Bool, true, false, List, [], ◌∷◌, ◌++◌, Some, None, Option, refl, sym, ap, ◌∙◌, subst}
+use Rattle.std.specs.Prelude.{◌+◌, ◌%◌}
+use Rattle.std.proofs.Math.Nat.{mod-one}
 use Rattle.aft_entries.specs.declared.entry.Entry.{Entry}
 use Rattle.aft_entries.specs.declared.key.Key.{Key}
-use Rattle.aft_entries.specs.Order.{key_eq, shard_of}
+use Rattle.aft_entries.specs.Order.{key_eq, shard_of, name_number, name_length, kind_place}
 use Rattle.aft_entries.proofs.OrderLemmas.{key_eq_same}
 use Rattle.table_model.specs.declared.command.Command.TheVariants.{Take, Report}
 use Rattle.table_model.specs.declared.command.Config.{Config}
@@ -22,7 +24,7 @@ use Rattle.table_model.specs.Table.{lookup}
 use Rattle.table_model.proofs.Effects.{effect_there, effect_here}
 use Rattle.table_laws.proofs.Reports.{fib_next}
 use Rattle.fib_worker.specs.Doing.{Does}
-use Rattle.fib_worker.specs.Shards.{IsShard, HoldsShard, AreApart, OthersKeepShard, JobKeepsShard, TakesKeepShard, EmptyHoldsShard}
+use Rattle.fib_worker.specs.Shards.{IsShard, HoldsShard, AreApart, OthersKeepShard, JobKeepsShard, TakesKeepShard, EmptyHoldsShard, OnlyWorkerHoldsAll}
 use Rattle.fib_worker.proofs.Outs.{IsOut, out_at_once, out_stays}
 use Rattle.fib_worker.proofs.Shards.{shard_stays, take_keeps}
 
@@ -126,3 +128,10 @@ job_keeps config worker job said given_at reported_at answered others past befor
           (holds_by config worker job said reported_at (others ++ given ∷ past) before after
           (subst (λ (r : Reply). IsLawful config (event (Report job.number said reported_at) r ∷ others ++ given ∷ past)) is lawful) out does before_report),
     )
+
+one_shard : (key : Key) → shard_of key 1 ≡ 0
+unfolding shard_of
+one_shard key = mod-one ((name_number key.name + name_length key.name) % 1 + key.instance + kind_place key.name)
+
+pub only_worker_holds : OnlyWorkerHoldsAll
+only_worker_holds held table shard key = shard.there key (one_shard key)

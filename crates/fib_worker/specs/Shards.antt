@@ -69,6 +69,11 @@ TakesKeepShard config =
 abbrev pub EmptyHoldsShard : Type 0
 EmptyHoldsShard = (workers worker : ℕ) → HoldsShard workers worker (Some []) (fib [])
 
+-- who holds the shard of the only worker has under each key what the table has there
+abbrev pub OnlyWorkerHoldsAll : Type 0
+OnlyWorkerHoldsAll =
+    (held table : List Entry) → HoldsShard 1 0 (Some held) table → (key : Key) → lookup key held ≡ lookup key table
+
 -- the worker is given the job
 abbrev pub gives : ℕ → Job → ℤ → Event
 gives worker job at = event (Take worker at) (Given job)

@@ -1,5 +1,5 @@
 ghost use Rattle.table_model.specs.declared.command.Config.{Config};
-ghost use Rattle.fib_worker.specs.Shards.{EmptyHoldsShard, JobKeepsShard, OthersKeepShard, TakesKeepShard};
+ghost use Rattle.fib_worker.specs.Shards.{EmptyHoldsShard, JobKeepsShard, OnlyWorkerHoldsAll, OthersKeepShard, TakesKeepShard};
 
 /// A device that holds its worker's shard of the forwarding table when the worker is given a job, and then does the job,
 /// holds the shard again once that is reported, whether it did the work or failed. Other events in between are no Take or
@@ -22,4 +22,9 @@ pub fn takes_keep_shard()
 /// Before the first event an empty device holds each shard of the forwarding table.
 pub fn empty_holds_shard()
     ensures { EmptyHoldsShard }
+{}
+
+/// Where there is one worker, a device that holds its shard has under each key what the forwarding table has there.
+pub fn only_worker_holds_all()
+    ensures { OnlyWorkerHoldsAll }
 {}

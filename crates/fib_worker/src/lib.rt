@@ -15,5 +15,7 @@ mod laws;
 
 pub use aft_entries::Device;
 pub use job::do_job;
-pub use laws::{empty_holds_shard, job_keeps_shard, others_keep_shard, takes_keep_shard};
+pub use laws::{
+    empty_holds_shard, job_keeps_shard, only_worker_holds_all, others_keep_shard, takes_keep_shard,
+};
 pub use table_model::{Job, Verdict, Work};
