@@ -11,3 +11,6 @@ pub mod Entire
 pub mod Drained
 pub mod Kept
 pub mod Sending
+pub mod Granted
+pub mod Replied
+pub mod Refused

@@ -1,5 +1,6 @@
 //! What the calls of a connection spell.
 ghost use Rattle.grpc_stream.specs.Laws.{AllIsAnswered, AllIsAsked, ClientsAsk, GoawaysSend, PumpedIsAnswered, PumpedIsAsked, PumpsSend, ResetsSend, SendingIsKept, ServersAnswer, ServersShow};
+ghost use Rattle.h2_conn.specs.Laws.{EventsSend, RefusalsSend};
 
 use h2_exchange::laws::written_blocks_are_read;
 
@@ -73,4 +74,14 @@ pub fn resets_send()
 /// The GOAWAY of a refusal may be sent, where what was sent before it may be.
 pub fn goaways_send()
     ensures { GoawaysSend }
+{}
+
+/// What is sent with events may be sent.
+pub fn events_send()
+    ensures { EventsSend }
+{}
+
+/// What is sent up to a refusal, its GOAWAY with it, may be sent.
+pub fn refusals_send()
+    ensures { RefusalsSend }
 {}
