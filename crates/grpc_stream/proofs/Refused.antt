@@ -23,9 +23,10 @@ use Rattle.h2_exchange.specs.Streams.{is_begun}
 use Rattle.h2_exchange.proofs.Looking.{collect_push}
 use Rattle.h2_exchange.proofs.Staying.{events_go_on}
 use Rattle.h2_exchange.proofs.Steps.{received_sent}
-use Rattle.h2_conn.specs.Answers.{GivesEvents, code_of}
-use Rattle.h2_conn.specs.ConnectionTrace.{ConnectionTrace, IsSound, stop_in}
+use Rattle.h2_conn.specs.Answers.{GivesEvents, Receives, after, code_of}
+use Rattle.h2_conn.specs.ConnectionTrace.{ConnectionTrace, IsSound, NoMemory, Refusal, stop_in}
 use Rattle.h2_conn.specs.Laws.{EventsSend, RefusalsSend, SendsIn}
+use Rattle.grpc_stream.specs.Laws.{OutOfMemorySends}
 use Rattle.grpc_stream.proofs.Kept.{sending_is_kept}
 use Rattle.grpc_stream.proofs.Replied.{Owes, all_answered, nothing}
 use Rattle.grpc_stream.proofs.Sending.{goaways_send}
@@ -45,16 +46,24 @@ begins_owing is_asked rest c outcomes output sound alive sends = record {
     fewer xs ys more e = omega (arith, ap length e, length-append xs more)
 
 -- up to a front of the frames of a connection that is sound
-events_before : (is_asked : List Step → ℕ → ErrorCode → Bool) (rest : List ℕ) (c d e : ConnectionTrace) (es : List Event) (behind : List Step) (output later : List ℕ) → IsSound c output → IsSound e later → (h : GivesEvents c es d) →
+received_before : (is_asked : List Step → ℕ → ErrorCode → Bool) (rest : List ℕ) (c d e : ConnectionTrace) (more behind : List Step) (outcomes : List Outcome) (es : List Event) (refusal : Option Refusal) (output later : List ℕ) → IsSound c output → IsSound e later →
+    c.refusal ≡ None → Receives c.role c.limits c.is_holding (c.heads ++ outcomes) c.frames more → d ≡ after more outcomes es refusal c → e.frames ≡ d.frames ++ behind → SendsIn is_asked rest c → SendsIn is_asked rest d
+received_before is_asked rest c d e more behind outcomes es refusal output later sound whole alive receives goes_on split sends =
+    let at : e.frames ≡ c.frames ++ (more ++ behind) = split ∙ ap (λ (v : ConnectionTrace). v.frames ++ behind) goes_on ∙ append_assoc c.frames more behind in
+    subst (SendsIn is_asked rest) (sym goes_on)
+    (all_answered c.role c.limits (c.heads ++ outcomes) is_asked c.fed rest c.is_holding e.frames whole.placed whole.acknowledged c.frames more behind receives at
+    (begins_owing is_asked rest c outcomes output sound alive sends))
+
+events_before : (is_asked : List Step → ℕ → ErrorCode → Bool) (rest : List ℕ) (c d e : ConnectionTrace) (es : List Event) (behind : List Step) (output later : List ℕ) → IsSound c output → IsSound e later → GivesEvents c es d →
     e.frames ≡ d.frames ++ behind → SendsIn is_asked rest c → SendsIn is_asked rest d
-events_before is_asked rest c d e es behind output later sound whole h split sends =
-    let at : e.frames ≡ c.frames ++ (h.more ++ behind) = split ∙ ap (λ (v : ConnectionTrace). v.frames ++ behind) h.goes_on ∙ append_assoc c.frames h.more behind in
-    subst (SendsIn is_asked rest) (sym h.goes_on)
-    (all_answered c.role c.limits (c.heads ++ h.outcomes) is_asked c.fed rest c.is_holding e.frames whole.placed whole.acknowledged c.frames h.more behind h.receives at
-    (begins_owing is_asked rest c h.outcomes output sound h.alive sends))
+events_before is_asked rest c d e es behind output later sound whole h split sends = received_before is_asked rest c d e h.more behind h.outcomes es None output later sound whole h.alive h.receives h.goes_on split sends
 
 pub events_send : EventsSend
 events_send = λ is_asked rest c d es output later sound whole h sends. events_before is_asked rest c d d es [] output later sound whole h (sym (append-nil d.frames)) sends
+
+pub out_of_memory_sends : OutOfMemorySends
+out_of_memory_sends = λ is_asked rest c d output later sound whole h sends.
+    received_before is_asked rest c d d h.more [] h.outcomes [] (Some NoMemory) output later sound whole h.alive h.receives h.ends (sym (append-nil d.frames)) sends
 
 -- ---- a refusal
 

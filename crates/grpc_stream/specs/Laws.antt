@@ -20,7 +20,7 @@ use Rattle.h2_exchange.specs.StreamParts.{AnswersBegin, AnswersAre}
 use Rattle.h2_frames.specs.declared.frame.Frame.{Frame}
 use Rattle.h2_conn.specs.ConnectionTrace.{ConnectionTrace, IsSound, is_alive, stop_in, wrote}
 use Rattle.h2_conn.specs.Laws.{SendsIn}
-use Rattle.h2_conn.specs.Answers.{Stops}
+use Rattle.h2_conn.specs.Answers.{RunsOutOfMemory, Stops}
 use Rattle.h2_conn.specs.Sends.{CarryReset}
 use Rattle.grpc_stream.specs.NextEvent.{shown_events_of}
 use Rattle.grpc_stream.specs.Sends.{Pumps}
@@ -103,3 +103,9 @@ GoawaysSend =
     IsSound d output → (refusal : Stops c stop d) →
     (stop_in refusal.at ≡ None → AreFrames (peer_preface refusal.at.role) refusal.at.fed (received refusal.at.frames) rest) →
     SendsIn is_asked rest refusal.at → SendsIn is_asked rest d
+
+-- and what is sent before memory runs out
+abbrev pub OutOfMemorySends : Type 0
+OutOfMemorySends =
+    (is_asked : List Step → ℕ → ErrorCode → Bool) (rest : List ℕ) (c d : ConnectionTrace) (output later : List ℕ) → IsSound c output → IsSound d later →
+    RunsOutOfMemory c d → SendsIn is_asked rest c → SendsIn is_asked rest d

@@ -1,5 +1,5 @@
 //! What the calls of a connection spell.
-ghost use Rattle.grpc_stream.specs.Laws.{AllIsAnswered, AllIsAsked, ClientsAsk, GoawaysSend, PumpedIsAnswered, PumpedIsAsked, PumpsSend, ResetsSend, SendingIsKept, ServersAnswer, ServersShow};
+ghost use Rattle.grpc_stream.specs.Laws.{AllIsAnswered, AllIsAsked, ClientsAsk, GoawaysSend, OutOfMemorySends, PumpedIsAnswered, PumpedIsAsked, PumpsSend, ResetsSend, SendingIsKept, ServersAnswer, ServersShow};
 ghost use Rattle.h2_conn.specs.Laws.{EventsSend, RefusalsSend};
 
 use h2_exchange::laws::written_blocks_are_read;
@@ -79,6 +79,11 @@ pub fn goaways_send()
 /// What is sent with events may be sent.
 pub fn events_send()
     ensures { EventsSend }
+{}
+
+/// What is sent before memory runs out may be sent.
+pub fn out_of_memory_sends()
+    ensures { OutOfMemorySends }
 {}
 
 /// What is sent up to a refusal, its GOAWAY with it, may be sent.
