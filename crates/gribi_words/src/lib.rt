@@ -14,7 +14,9 @@
 #![tactic(auto)]
 
 mod given;
+mod laws;
 mod number;
 mod wish;
 
+pub use laws::written_options_are_read;
 pub use wish::{Wish, Word, Words, WordsFault, read_words};
