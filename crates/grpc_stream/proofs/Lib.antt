@@ -14,3 +14,5 @@ pub mod Sending
 pub mod Granted
 pub mod Replied
 pub mod Refused
+pub mod Cuts
+pub mod Answered

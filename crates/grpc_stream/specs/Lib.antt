@@ -5,4 +5,5 @@ pub mod NextEvent
 pub mod Sends
 pub mod Shown
 pub mod Unproved
+pub mod ClientReads
 pub mod CallTrace

@@ -1,14 +1,14 @@
 -- Statements that are not proved. No contract cites them.
-use Rattle.std.specs.Prelude.{◌≡◌, ◌⊎◌, ℕ, ◌==◌, map, List, [], ◌∷◌, Option, Some, Ok, if◌then◌else◌}
-use Rattle.std.specs.List.{Contains, flat_map}
-use Rattle.grpc_heads.specs.CallEnd.{CallEnd, Status, call_end_of, status_by, unknown}
+use Rattle.std.specs.Prelude.{◌≡◌, ◌⊎◌, ℕ, map, List, Option, Some, Ok}
+use Rattle.std.specs.List.{Contains}
+use Rattle.grpc_heads.specs.CallEnd.{CallEnd, Status, Unreadable, call_end_of, status_by, unknown}
 use Rattle.grpc_heads.specs.GrpcStatus.{GrpcStatus}
 use Rattle.grpc_heads.specs.Trailers.{status_in_trailers}
 use Rattle.grpc_heads.specs.Written.{response_fields}
 use Rattle.hpack_tables.specs.declared.field.Field.{Field}
 use Rattle.h2_exchange.specs.declared.limits.H2Limits.{H2Limits}
 use Rattle.h2_exchange.specs.declared.role.Role.TheVariants.{Client}
-use Rattle.h2_exchange.specs.Calls.{Answer, Answered, Closed, answers}
+use Rattle.h2_exchange.specs.Calls.{Answer, Closed, answers}
 use Rattle.h2_exchange.specs.Content.{AreRead, Outcome}
 use Rattle.h2_exchange.specs.Exchange.{Step, received, sent}
 use Rattle.h2_exchange.specs.Outcomes.{AreKnown}
@@ -16,20 +16,14 @@ use Rattle.h2_exchange.specs.Sending.{IsPrefix, ResetsErrors}
 use Rattle.h2_exchange.specs.StreamParts.{CarriesResponse}
 use Rattle.h2_exchange.specs.Stops.{events}
 use Rattle.schema_numbers.specs.Numbers.{Numbers}
+use Rattle.grpc_stream.specs.ClientReads.{answered_on}
 
-abbrev message_on : ℕ → Answer GrpcStatus → List (List ℕ)
-message_on id (Answered stream message) = if stream == id then message ∷ [] else []
-message_on id other = []
-
--- the messages that are answered on a stream
-abbrev pub answered_on : ℕ → List (Answer GrpcStatus) → List (List ℕ)
-answered_on id given = flat_map (message_on id) given
-
--- Answers begin what a stream spells. A status that closes it is the one that is spelled, behind all messages, or UNKNOWN.
+-- Answers begin what a stream spells. A status that closes it is UNKNOWN, or stands behind all messages and is the one that is
+-- spelled. Fields that say no end may still have one: a status of gRPC beside another status of HTTP than 200.
 pub record BeginWhatIsSpelled (id : ℕ) (given : List (Answer GrpcStatus)) (messages : List (List ℕ)) (end : Option CallEnd) : Type 0 where
   pub front : IsPrefix (answered_on id given) messages
   pub closed : (status : GrpcStatus) → Contains given (Closed id status) →
-      (status ≡ unknown) ⊎ ((end ≡ Some (Status status)) × (answered_on id given ≡ messages))
+      (status ≡ unknown) ⊎ (((end ≡ Some (Status status)) ⊎ (end ≡ Some Unreadable)) × (answered_on id given ≡ messages))
 
 -- What a client reads of a server's frames, of which it received the first ones, begins what those frames spell.
 abbrev pub ClientReadsFront : Type 0

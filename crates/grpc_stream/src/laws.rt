@@ -1,4 +1,5 @@
 //! What the calls of a connection spell.
+ghost use Rattle.grpc_stream.specs.ClientReads.{AnswersBeginMessages};
 ghost use Rattle.grpc_stream.specs.Laws.{AllIsAnswered, AllIsAsked, ClientsAsk, GoawaysSend, OutOfMemorySends, PumpedIsAnswered, PumpedIsAsked, PumpsSend, ResetsSend, SendingIsKept, ServersAnswer, ServersShow};
 ghost use Rattle.h2_conn.specs.Laws.{EventsSend, RefusalsSend};
 
@@ -89,4 +90,9 @@ pub fn out_of_memory_sends()
 /// What is sent up to a refusal, its GOAWAY with it, may be sent.
 pub fn refusals_send()
     ensures { RefusalsSend }
+{}
+
+/// The messages that events answer on a stream begin those of the bytes that a server sent on it.
+pub fn answers_begin_messages()
+    ensures { AnswersBeginMessages }
 {}
