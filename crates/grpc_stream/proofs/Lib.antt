@@ -16,3 +16,5 @@ pub mod Replied
 pub mod Refused
 pub mod Cuts
 pub mod Answered
+pub mod Heard
+pub mod ClientReads

@@ -18,18 +18,18 @@ use Rattle.h2_exchange.specs.Stops.{events}
 use Rattle.schema_numbers.specs.Numbers.{Numbers}
 use Rattle.grpc_stream.specs.ClientReads.{answered_on}
 
--- Answers begin what a stream spells. A status that closes it is UNKNOWN, or stands behind all messages and is the one that is
--- spelled. Fields that say no end may still have one: a status of gRPC beside another status of HTTP than 200.
-pub record BeginWhatIsSpelled (id : ℕ) (given : List (Answer GrpcStatus)) (messages : List (List ℕ)) (end : Option CallEnd) : Type 0 where
-  pub front : IsPrefix (answered_on id given) messages
-  pub closed : (status : GrpcStatus) → Contains given (Closed id status) →
-      (status ≡ unknown) ⊎ (((end ≡ Some (Status status)) ⊎ (end ≡ Some Unreadable)) × (answered_on id given ≡ messages))
+-- A status that closes a stream is UNKNOWN, or stands behind all messages and is the one that is spelled. Fields that say no end
+-- may still have one: a status of gRPC beside another status of HTTP than 200.
+abbrev pub ClosesAsSpelled : ℕ → List (Answer GrpcStatus) → List (List ℕ) → Option CallEnd → Type 0
+ClosesAsSpelled id given messages end =
+    (status : GrpcStatus) → Contains given (Closed id status) →
+    (status ≡ unknown) ⊎ (((end ≡ Some (Status status)) ⊎ (end ≡ Some Unreadable)) × (answered_on id given ≡ messages))
 
--- What a client reads of a server's frames, of which it received the first ones, begins what those frames spell.
-abbrev pub ClientReadsFront : Type 0
-ClientReadsFront =
+-- The end that a client reads of a server's frames, of which it received the first ones, is the one that those frames spell.
+abbrev pub ClientReadsEnd : Type 0
+ClientReadsEnd =
     (n : Numbers) (limits : H2Limits) (x y : List Step) (heads : List (List Field)) (outcomes : List Outcome) →
     (id : ℕ) (messages : List (List ℕ)) (rest : List ℕ) (end : Option CallEnd) →
     IsPrefix (received y) (sent x) → AreRead (sent x) (map Ok heads) → AreKnown Client limits outcomes y → ResetsErrors Client limits outcomes y →
     CarriesResponse response_fields (call_end_of n) heads (sent x) id messages rest end →
-    BeginWhatIsSpelled id (answers (λ fields. status_by (status_in_trailers n fields)) unknown (events Client limits outcomes y)) messages end
+    ClosesAsSpelled id (answers (λ fields. status_by (status_in_trailers n fields)) unknown (events Client limits outcomes y)) messages end

@@ -1,5 +1,5 @@
 //! What the calls of a connection spell.
-ghost use Rattle.grpc_stream.specs.ClientReads.{AnswersBeginMessages};
+ghost use Rattle.grpc_stream.specs.ClientReads.{AnswersBeginMessages, ClientReadsMessages};
 ghost use Rattle.grpc_stream.specs.Laws.{AllIsAnswered, AllIsAsked, ClientsAsk, GoawaysSend, OutOfMemorySends, PumpedIsAnswered, PumpedIsAsked, PumpsSend, ResetsSend, SendingIsKept, ServersAnswer, ServersShow};
 ghost use Rattle.h2_conn.specs.Laws.{EventsSend, RefusalsSend};
 
@@ -95,4 +95,10 @@ pub fn refusals_send()
 /// The messages that events answer on a stream begin those of the bytes that a server sent on it.
 pub fn answers_begin_messages()
     ensures { AnswersBeginMessages }
+{}
+
+/// The messages that a client reads of what a server sent, as far as it was received, begin those that
+/// the server's frames spell.
+pub fn client_reads_messages()
+    ensures { ClientReadsMessages }
 {}
