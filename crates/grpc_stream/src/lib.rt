@@ -3,7 +3,8 @@
 //! stand in `out` until `drop_out`.
 //!
 //! The contract is specs/CallTrace (what calls were used for, and what holds of it), specs/NextEvent (what is
-//! told next), specs/Sends (what `pump` sends) and specs/Laws (what the frames spell); `laws` proves the last.
+//! told next), specs/Sends (what `pump` sends), specs/Laws (what the frames spell) and specs/ClientReads (what a
+//! client reads of a server's); `laws` proves the last two.
 //!
 //! ```text
 //! calls.feed(piece)?;
