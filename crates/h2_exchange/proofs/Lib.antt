@@ -1,10 +1,17 @@
+pub mod Answered
+pub mod CallOrder
 pub mod Compressing
 pub mod Computed
+pub mod EventOrder
+pub mod FrameOrder
 pub mod Heads
 pub mod Known
 pub mod Looking
 pub mod Ordering
+pub mod Places
 pub mod Reading
+pub mod Refused
 pub mod Sending
+pub mod Spelled
 pub mod Staying
 pub mod Steps

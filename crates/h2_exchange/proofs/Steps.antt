@@ -89,7 +89,7 @@ both : (a b c d : Bool) → (a ≡ true → c ≡ true) → (b ≡ true → d �
 both true b c d p q e = ap (λ (r : Bool). r && d) (p refl) ∙ q e
 both false b c d p q e = absurd cc
 
-ended_more : (fs gs : List Frame) (id : ℕ) → is_ended_by fs id ≡ true → is_ended_by (fs ++ gs) id ≡ true
+pub ended_more : (fs gs : List Frame) (id : ℕ) → is_ended_by fs id ≡ true → is_ended_by (fs ++ gs) id ≡ true
 ended_more fs gs id =
     either (list_any (λ f. is_data f && has_end_stream f && stream_of f == id) fs) (list_any (is_last_on id) (blocks fs))
     (list_any (λ f. is_data f && has_end_stream f && stream_of f == id) (fs ++ gs)) (list_any (is_last_on id) (blocks (fs ++ gs)))

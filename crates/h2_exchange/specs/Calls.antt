@@ -41,7 +41,7 @@ pub data Call (M E : Type 0) : Type 0 where
 
 -- ---- what the layer above is shown
 
-abbrev is_begun_call : {M E : Type 0} → ℕ → Call M E → Bool
+abbrev pub is_begun_call : {M E : Type 0} → ℕ → Call M E → Bool
 is_begun_call id (Begun stream method) = stream == id
 is_begun_call id other = false
 
@@ -88,7 +88,7 @@ are_in_place cs = not (some_step (λ past c. not (is_in_place past c)) [] cs)
 
 -- What heads and framing decide: the method of a head or its refusal, and the refusals of a stream's bytes.
 module _ {M E : Type 0} (method_of : List Field → Result M E) (compressed too_long truncated : E) where
-  abbrev is_begun_on : ℕ → Event → Bool
+  abbrev pub is_begun_on : ℕ → Event → Bool
   is_begun_on id (Head stream fields last) = stream == id && is_ok (method_of fields)
   is_begun_on id other = false
 

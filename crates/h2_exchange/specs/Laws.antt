@@ -126,7 +126,7 @@ pub record OrderIsKept : Type 0 where
       InOrder role ps x → InOrder role ps (x ++ more)
 
 -- The calls that an exchange spells stand in their places, where each stream error is answered by the reset of its stream: without
--- that a call could be dropped twice. Stated, not proved.
+-- that a call could be dropped twice.
 abbrev pub CallsAreInPlace : Type 0 → Type 0 → Type 0
 CallsAreInPlace M E =
     (limits : H2Limits) (heads : List Outcome) (x : List Step) (method_of : List Field → Result M E) (compressed too_long truncated : E) →

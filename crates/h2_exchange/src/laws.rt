@@ -1,5 +1,5 @@
 //! Laws over exchanges that go on.
-ghost use Rattle.h2_exchange.specs.Laws.{AllIsPrefix, AnswersStay, HeaderBlocksGrow, CallsStay, EventsGoOn, EventsStay, LaterBlocksChangeNothing, ExchangeIsDetermined, OnlyTheseAreSent, OrderIsKept, ShownCallsStay, StopsStay, StreamsEnd, CompleteExchangeIsRead, WindowSumsGrow, WrittenBlocksAreRead};
+ghost use Rattle.h2_exchange.specs.Laws.{AllIsPrefix, AnswersStay, CallsAreInPlace, HeaderBlocksGrow, CallsStay, EventsGoOn, EventsStay, LaterBlocksChangeNothing, ExchangeIsDetermined, OnlyTheseAreSent, OrderIsKept, ShownCallsStay, StopsStay, StreamsEnd, CompleteExchangeIsRead, WindowSumsGrow, WrittenBlocksAreRead};
 
 /// The events of an exchange begin those of the exchange that goes on.
 pub fn events_stay()
@@ -79,4 +79,9 @@ pub fn written_blocks_are_read()
 /// The order of received and sent frames lasts.
 pub fn order_is_kept()
     ensures { OrderIsKept }
+{}
+
+/// The calls that an exchange spells stand in their places, where each stream error is answered by a reset.
+pub fn calls_are_in_place<M, E>()
+    ensures { CallsAreInPlace M E }
 {}
