@@ -1,0 +1,43 @@
+-- Pieces of a text that is gone through from its front.
+use Rattle.std.proofs.Common.{◌≡◌, ℕ, suc, zero, ◌+◌, ◌<◌, ◌≤◌, Bool, true, false, List, [], ◌∷◌, ◌++◌, refl, sym, ap, ◌∙◌, append_assoc, length, take, drop, get_or, add-one, drop-cons, arith}
+use Rattle.std.proofs.lemmas.List.{take_more, drop_all}
+use Rattle.std.specs.Prelude.{◌==◌, not, if◌then◌else◌, cond}
+use Rattle.std.specs.List.{filter}
+use Rattle.script_lang.specs.Words.{ended_by, onto_first, is_some_text}
+
+pub append-nil : {X : Type 0} (xs : List X) → xs ++ [] ≡ xs
+append-nil [] = refl
+append-nil (x ∷ xs) = ap (λ ys. x ∷ ys) (append-nil xs)
+
+abbrev pub ahead : List ℕ → List (List ℕ) → List (List ℕ)
+ahead front [] = front ∷ []
+ahead front (piece ∷ others) = (front ++ piece) ∷ others
+
+ahead-onto : (front : List ℕ) (c : ℕ) (ps : List (List ℕ)) → ahead front (onto_first c ps) ≡ ahead (front ++ c ∷ []) ps
+ahead-onto front c [] = refl
+ahead-onto front c (piece ∷ others) = ap (λ p. p ∷ others) (sym (append_assoc front (c ∷ []) piece))
+
+ahead-none : (b : Bool) (c : ℕ) (ps : List (List ℕ)) → (if b then [] ∷ ps else onto_first c ps) ≡ ahead [] (if b then [] ∷ ps else onto_first c ps)
+ahead-none true c ps = refl
+ahead-none false c [] = refl
+ahead-none false c (p ∷ ps) = refl
+
+pub pieces_start : (mark : ℕ) (text : List ℕ) → (length text == 0) ≡ false → ended_by mark text ≡ ahead [] (ended_by mark text)
+pieces_start mark [] some = cc
+pieces_start mark (c ∷ text) some = ahead-none (c == mark) c (ended_by mark text)
+
+-- one more byte that isn't the mark
+pub pieces_more : (mark : ℕ) (front : List ℕ) (c : ℕ) (text : List ℕ) → (c == mark) ≡ false → ahead front (ended_by mark (c ∷ text)) ≡ ahead (front ++ c ∷ []) (ended_by mark text)
+pieces_more mark front c text other = ap (λ b. ahead front (if b then [] ∷ ended_by mark text else onto_first c (ended_by mark text))) other ∙ ahead-onto front c (ended_by mark text)
+
+-- the mark
+pub pieces_found : (mark : ℕ) (front : List ℕ) (c : ℕ) (text : List ℕ) → (c == mark) ≡ true → ahead front (ended_by mark (c ∷ text)) ≡ front ∷ ended_by mark text
+pieces_found mark front c text same = ap (λ b. ahead front (if b then [] ∷ ended_by mark text else onto_first c (ended_by mark text))) same ∙ ap (λ f. f ∷ ended_by mark text) (append-nil front)
+
+-- Words
+
+pub words_skip : (piece : List ℕ) (ps : List (List ℕ)) → (length piece == 0) ≡ true → filter is_some_text (piece ∷ ps) ≡ filter is_some_text ps
+words_skip piece ps none = ap (λ b. cond (not b) (piece ∷ filter is_some_text ps) (filter is_some_text ps)) none
+
+pub words_keep : (piece : List ℕ) (ps : List (List ℕ)) → (length piece == 0) ≡ false → filter is_some_text (piece ∷ ps) ≡ piece ∷ filter is_some_text ps
+words_keep piece ps some = ap (λ b. cond (not b) (piece ∷ filter is_some_text ps) (filter is_some_text ps)) some

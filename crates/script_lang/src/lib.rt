@@ -1,0 +1,25 @@
+//! The script language of the compliance client: one line is one call, one message, or one thing that is expected.
+//!
+//! Begin with [`read_script`]; `specs/Scripts` is its contract, `specs/Forms` the rows that a line may have, `specs/Words`
+//! how a text is cut into lines and words. [`print_script`] writes a script, and what it writes is read as the same script.
+//!
+//! ```
+//! let script = read_script(alloc, b"modify a\nfinish a\nexpect a end OK")?;
+//! ```
+#![tactic(auto)]
+
+mod entry;
+mod expect;
+mod fault;
+mod fit;
+mod form;
+mod line;
+mod number;
+mod read;
+mod split;
+mod words;
+
+pub use fault::{ScriptFault, ScriptFaultKind};
+pub use line::{Line, LineText, NumberedLine, Row, Script};
+pub use read::read_script;
+pub use words::Words;
