@@ -2,7 +2,11 @@
 use Rattle.std.proofs.Common.{◌≡◌, ℕ, suc, zero, ◌+◌, ◌<◌, ◌≤◌, Bool, true, false, List, [], ◌∷◌, ◌++◌, refl, sym, ap, ◌∙◌, append_assoc, length, take, drop, get_or, add-one, drop-cons, arith}
 use Rattle.std.proofs.lemmas.List.{take_more, drop_all}
 use Rattle.std.specs.Prelude.{◌==◌, not, if◌then◌else◌, cond}
-use Rattle.std.specs.List.{filter}
+use Rattle.std.proofs.Common.{length-drop}
+use Rattle.std.proofs.lemmas.Bool.Decides.{nat_tests}
+use Rattle.std.proofs.lemmas.List.Splits.{slice_split_none, slice_split_first}
+use Rattle.std.proofs.lemmas.List.Sums.{fails_before_first}
+use Rattle.std.specs.List.{All, filter, slice_split, position_or_len, before_first, after_first}
 use Rattle.script_lang.specs.Words.{ended_by, onto_first, is_some_text}
 
 pub append-nil : {X : Type 0} (xs : List X) → xs ++ [] ≡ xs
@@ -41,3 +45,22 @@ words_skip piece ps none = ap (λ b. cond (not b) (piece ∷ filter is_some_text
 
 pub words_keep : (piece : List ℕ) (ps : List (List ℕ)) → (length piece == 0) ≡ false → filter is_some_text (piece ∷ ps) ≡ piece ∷ filter is_some_text ps
 words_keep piece ps some = ap (λ b. cond (not b) (piece ∷ filter is_some_text ps) (filter is_some_text ps)) some
+
+pub words_end : (text : List ℕ) → (length text == 0) ≡ true → filter is_some_text (slice_split (λ c. c == 32) text) ≡ []
+words_end [] none = refl
+words_end (c ∷ text) none = absurd (grind (arith, nat_tests))
+
+-- a text without a space is one piece
+pub split_none : (text : List ℕ) → position_or_len (λ c. c == 32) text ≡ length text → filter is_some_text (slice_split (λ c. c == 32) text) ≡ filter is_some_text (text ∷ slice_split (λ c. c == 32) [])
+split_none text none =
+    let front : All (λ c. (c == 32) ≡ false) text = λ k d inside. fails_before_first (λ c. c == 32) text k d (omega (arith, none, inside)) in
+    ap (filter is_some_text) (slice_split_none (λ c. c == 32) text front) ∙ one text (length text == 0)
+  where
+    one : (text : List ℕ) (b : Bool) → filter is_some_text (text ∷ []) ≡ filter is_some_text (text ∷ [] ∷ [])
+    one text b = refl
+
+pub split_found : (text : List ℕ) → position_or_len (λ c. c == 32) text < length text → filter is_some_text (slice_split (λ c. c == 32) text) ≡ filter is_some_text (before_first (λ c. c == 32) text ∷ slice_split (λ c. c == 32) (after_first (λ c. c == 32) text))
+split_found text found = ap (filter is_some_text) (slice_split_first (λ c. c == 32) text 0 found)
+
+pub split_shorter : (text : List ℕ) → position_or_len (λ c. c == 32) text < length text → length (after_first (λ c. c == 32) text) < length text
+split_shorter text found = omega (arith, found, length-drop (position_or_len (λ c. c == 32) text + 1) text)

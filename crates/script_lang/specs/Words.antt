@@ -1,6 +1,6 @@
 -- How a text is cut into lines, and a line into words. A text is the list of its bytes.
 use Rattle.std.specs.Prelude.{ℕ, ◌==◌, Bool, not, length, List, [], ◌∷◌, if◌then◌else◌}
-use Rattle.std.specs.List.{filter}
+use Rattle.std.specs.List.{filter, slice_split}
 
 abbrev pub onto_first : ℕ → List (List ℕ) → List (List ℕ)
 onto_first c [] = (c ∷ []) ∷ []
@@ -20,4 +20,4 @@ is_some_text text = not (length text == 0)
 
 -- the words, parted by spaces
 unfoldable pub words : List ℕ → List (List ℕ)
-words line = filter is_some_text (ended_by 32 line)
+words line = filter is_some_text (slice_split (λ c. c == 32) line)

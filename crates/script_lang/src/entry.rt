@@ -108,7 +108,7 @@ fn option<'a>(key: &str, words: &mut Words<'a>) -> Option<&'a [u8]>
     ensures rest { words.new ≡ spec.rest_at key.now words.old }
 {
     let mut ahead = words.twin();
-    let Some(word) = ahead.next() else {
+    let Some(word) = ahead.next_bytes() else {
         return None;
     };
     let Some(text) = behind_key(key, word) else {
@@ -187,13 +187,13 @@ fn elected_by(word: &[u8]) -> Fit
 fn by_form(words: &mut Words<'_>) -> Fit
     ensures { result ≡ spec.by_form words.old }
 {
-    let Some(first) = words.next() else {
+    let Some(first) = words.next_bytes() else {
         return Fit::Fits;
     };
-    let Some(id) = words.next() else {
+    let Some(id) = words.next_bytes() else {
         return Fit::Unlike;
     };
-    let Some(_) = words.next() else {
+    let Some(_) = words.next_bytes() else {
         return both(fits_if(is("by", first)), elected_by(id));
     };
     Fit::Unlike
@@ -263,19 +263,19 @@ fn payload_form(kind: &[u8], words: &mut Words<'_>) -> Fit
 pub fn put_form(words: &mut Words<'_>) -> Fit
     ensures { result ≡ spec.put_form words.old }
 {
-    let Some(_call) = words.next() else {
+    let Some(_call) = words.next_bytes() else {
         return Fit::Unlike;
     };
-    let Some(id) = words.next() else {
+    let Some(id) = words.next_bytes() else {
         return Fit::Unlike;
     };
-    let Some(_instance) = words.next() else {
+    let Some(_instance) = words.next_bytes() else {
         return Fit::Unlike;
     };
-    let Some(kind) = words.next() else {
+    let Some(kind) = words.next_bytes() else {
         return Fit::Unlike;
     };
-    let Some(key) = words.next() else {
+    let Some(key) = words.next_bytes() else {
         return Fit::Unlike;
     };
     let payload = payload_form(kind, words);
@@ -286,19 +286,19 @@ pub fn put_form(words: &mut Words<'_>) -> Fit
 pub fn delete_form(words: &mut Words<'_>) -> Fit
     ensures { result ≡ spec.delete_form words.old }
 {
-    let Some(_call) = words.next() else {
+    let Some(_call) = words.next_bytes() else {
         return Fit::Unlike;
     };
-    let Some(id) = words.next() else {
+    let Some(id) = words.next_bytes() else {
         return Fit::Unlike;
     };
-    let Some(_instance) = words.next() else {
+    let Some(_instance) = words.next_bytes() else {
         return Fit::Unlike;
     };
-    let Some(kind) = words.next() else {
+    let Some(kind) = words.next_bytes() else {
         return Fit::Unlike;
     };
-    let Some(key) = words.next() else {
+    let Some(key) = words.next_bytes() else {
         return Fit::Unlike;
     };
     let by = by_form(words);

@@ -112,19 +112,19 @@ fn expect_three(item: &[u8], what: &[u8], reason: &[u8]) -> Result<Row, ScriptFa
 pub fn expect_row(words: &mut Words<'_>) -> Result<Row, ScriptFaultKind>
     ensures { result ≡ spec.expect_row words.old }
 {
-    let Some(_call) = words.next() else {
+    let Some(_call) = words.next_bytes() else {
         return Err(ScriptFaultKind::BadShape);
     };
-    let Some(item) = words.next() else {
+    let Some(item) = words.next_bytes() else {
         return Err(ScriptFaultKind::BadShape);
     };
-    let Some(what) = words.next() else {
+    let Some(what) = words.next_bytes() else {
         return expect_one(item);
     };
-    let Some(reason) = words.next() else {
+    let Some(reason) = words.next_bytes() else {
         return expect_two(item, what);
     };
-    let Some(_) = words.next() else {
+    let Some(_) = words.next_bytes() else {
         return expect_three(item, what, reason);
     };
     Err(ScriptFaultKind::BadShape)

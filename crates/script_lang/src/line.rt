@@ -28,25 +28,25 @@ pub enum Row {
 /// The text of a line, seen as the list of its words.
 #[derive(Drop)]
 pub struct LineText {
-    text: Vec<u8>,
+    text: String,
 }
 
 impl Model for LineText {
-    ghost use Rattle.std.specs.Prelude.{ℕ, List};
+    ghost use Rattle.std.specs.Prelude.{ℕ, List, string_bytes};
     ghost use Rattle.script_lang.specs.Words.{words};
 
     ghost Value = { List (List ℕ) };
 
-    ghost view = { λ t. words t.text.items };
+    ghost view = { λ t. words (string_bytes t.text) };
 }
 
 impl LineText {
     /// A copy of a line's text.
-    pub fn new(alloc: Global, line: &[u8]) -> Result<LineText, AllocError>
+    pub fn new(alloc: Global, line: &str) -> Result<LineText, AllocError>
         ensures { IfOk result (λ text. text ≡ text_of.words line.now) }
     {
         Ok(LineText {
-            text: Vec::from_slice(alloc, line)?,
+            text: String::from_str(alloc, line)?,
         })
     }
 
@@ -54,7 +54,7 @@ impl LineText {
     pub fn words(&self) -> Words<'_>
         ensures { result ≡ self.now }
     {
-        Words::new(self.text.as_slice())
+        Words::new(self.text.as_str())
     }
 }
 
@@ -161,10 +161,10 @@ impl LineText {
         ensures { result ≡ spec.names name.now self.now }
     {
         let mut words = self.words();
-        if words.next().is_none() {
+        if words.next_bytes().is_none() {
             return false;
         }
-        match words.next() {
+        match words.next_bytes() {
             None => false,
             Some(second) => second == name,
         }

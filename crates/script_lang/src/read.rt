@@ -1,4 +1,4 @@
-ghost use Rattle.std.specs.Prelude.{◌≡◌, ◌==◌, ◌≤◌, ◌⊎◌, [], IfOk, IfErr, OnOk, OnErr, Ok, Err, Some, length};
+ghost use Rattle.std.specs.Prelude.{◌≡◌, ◌==◌, ◌≤◌, ◌⊎◌, [], IfOk, IfErr, OnOk, OnErr, Ok, Err, Some, MatchOption, true, false, length};
 ghost use Rattle.std.specs.List.{list_any, count_by};
 ghost use Rattle.script_lang.specs.Words.{lines, words};
 ghost use Rattle.script_lang.specs.Scripts as spec;
@@ -38,13 +38,14 @@ fn is_past(long: usize, number: u32) -> bool
     number as usize == long || number > 10000
 }
 
+// The text of a line that is UTF-8.
 #[tactic(auto, using(crate::proofs::Reading::utf8_true, crate::proofs::Reading::utf8_false))]
-fn is_utf8(line: &[u8]) -> bool
-    ensures { result ≡ spec.is_utf8 line.now }
+fn utf8_text(line: &[u8]) -> Option<&str>
+    ensures { MatchOption result (spec.is_utf8 line.now ≡ false) (λ text. (text.now ≡ line.now) × (spec.is_utf8 line.now ≡ true)) }
 {
     match from_utf8(line) {
-        Ok(_) => true,
-        Err(_) => false,
+        Ok(text) => Some(text),
+        Err(_) => None,
     }
 }
 
@@ -70,7 +71,7 @@ fn call_name<'a>(words: &Words<'a>) -> &'a [u8]
     ensures { result.now ≡ spec.call_name words.now }
 {
     let mut words = words.twin();
-    match words.next() {
+    match words.next_bytes() {
         None => &[],
         Some(name) => name,
     }
@@ -109,7 +110,7 @@ fn is_comment(word: &[u8]) -> bool
 fn words_row(before: &[NumberedLine], words: &mut Words<'_>) -> Result<Option<Row>, ScriptFaultKind>
     ensures { result ≡ spec.words_row before.now words.old }
 {
-    let Some(first) = words.next() else {
+    let Some(first) = words.next_bytes() else {
         return Ok(None);
     };
     if is_comment(first) {
@@ -119,32 +120,12 @@ fn words_row(before: &[NumberedLine], words: &mut Words<'_>) -> Result<Option<Ro
     named(begun, row_behind(first, words))
 }
 
-#[tactic(auto, unfolding(crate::specs::Scripts::line_row))]
-fn line_row(
-    long: usize,
-    before: &[NumberedLine],
-    number: u32,
-    line: &[u8],
-) -> Result<Option<Row>, ScriptFaultKind>
-    ensures row { result ≡ spec.line_row long before.now number line.now }
-    ensures few { IfOk result (λ _. number ≤ 10000) }
-{
-    if is_past(long, number) {
-        return Err(ScriptFaultKind::TooLong);
-    }
-    if is_utf8(line) {
-        words_row(before, &mut Words::new(line))
-    } else {
-        Err(ScriptFaultKind::NotUtf8)
-    }
-}
-
 fn add_line(
     alloc: Global,
     script: &mut Script,
     number: u32,
     row: Row,
-    line: &[u8],
+    line: &str,
 ) -> Result<(), AllocError>
     ensures { OnOk result (script.new ≡ spec.with_line script.old number row (words line.now)) }
 {
@@ -154,7 +135,29 @@ fn add_line(
     Ok(())
 }
 
-// Takes a line to the script, where it is read and not skipped.
+// Takes a line's text to the script, where it is read and not skipped.
+fn take_text(
+    alloc: Global,
+    script: &mut Script,
+    number: u32,
+    text: &str,
+) -> Result<(), ScriptFaultKind>
+    ensures ok { OnOk result (spec.taken script.old number (words text.now) (spec.words_row script.old (words text.now)) ≡ Ok script.new) }
+    ensures err { IfErr result (λ k. (k ≡ kind.NoMemory) ⊎ (spec.taken script.old number (words text.now) (spec.words_row script.old (words text.now)) ≡ Err k)) }
+{
+    match words_row(script.as_slice(), &mut Words::new(text)) {
+        Err(kind) => Err(kind),
+        Ok(None) => Ok(()),
+        Ok(Some(row)) => {
+            match add_line(alloc, script, number, row, text) {
+                Ok(()) => Ok(()),
+                Err(_) => Err(ScriptFaultKind::NoMemory),
+            }
+        }
+    }
+}
+
+#[tactic(auto, unfolding(crate::specs::Scripts::line_row))]
 fn take_line(
     alloc: Global,
     long: usize,
@@ -166,15 +169,12 @@ fn take_line(
     ensures err { IfErr result (λ k. (k ≡ kind.NoMemory) ⊎ (spec.line_taken long script.old number line.now ≡ Err k)) }
     ensures few { OnOk result (number ≤ 10000) }
 {
-    match line_row(long, script.as_slice(), number, line) {
-        Err(kind) => Err(kind),
-        Ok(None) => Ok(()),
-        Ok(Some(row)) => {
-            match add_line(alloc, script, number, row, line) {
-                Ok(()) => Ok(()),
-                Err(_) => Err(ScriptFaultKind::NoMemory),
-            }
-        }
+    if is_past(long, number) {
+        return Err(ScriptFaultKind::TooLong);
+    }
+    match utf8_text(line) {
+        None => Err(ScriptFaultKind::NotUtf8),
+        Some(text) => take_text(alloc, script, number, text),
     }
 }
 
