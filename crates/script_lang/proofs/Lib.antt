@@ -2,3 +2,4 @@ pub mod Fitting
 pub mod Numbers
 pub mod Pieces
 pub mod Reading
+pub mod Printing

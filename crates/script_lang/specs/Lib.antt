@@ -2,3 +2,4 @@ pub mod Words
 pub mod Forms
 pub mod Lines
 pub mod Scripts
+pub mod Printed

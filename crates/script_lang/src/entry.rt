@@ -7,7 +7,7 @@ ghost use Rattle.script_lang.specs.Forms as spec;
 use crate::fit::{Fit, both, fits_if, is};
 use crate::number::{number, wide_number};
 use crate::split::split_piece;
-use crate::words::Words;
+use crate::words::{Words, next_bytes};
 
 fn some_text(word: &[u8]) -> Fit
     ensures { result ≡ spec.some_text word.now }
@@ -80,14 +80,22 @@ fn each_member(word: &[u8]) -> Fit
 fn labels(word: &[u8]) -> Fit
     ensures { result ≡ spec.listed (spec.number (2 ^ 64)) word.now }
 {
-    if ends_in_piece(word) { each_number(word) } else { Fit::Unlike }
+    if ends_in_piece(word) {
+        each_number(word)
+    } else {
+        Fit::Unlike
+    }
 }
 
 #[tactic(auto, unfolding(crate::specs::Forms::listed))]
 fn members(word: &[u8]) -> Fit
     ensures { result ≡ spec.listed spec.member word.now }
 {
-    if ends_in_piece(word) { each_member(word) } else { Fit::Unlike }
+    if ends_in_piece(word) {
+        each_member(word)
+    } else {
+        Fit::Unlike
+    }
 }
 
 // What stands behind the key in a word that begins with it.
@@ -108,7 +116,7 @@ fn option<'a>(key: &str, words: &mut Words<'a>) -> Option<&'a [u8]>
     ensures rest { words.new ≡ spec.rest_at key.now words.old }
 {
     let mut ahead = words.twin();
-    let Some(word) = ahead.next_bytes() else {
+    let Some(word) = next_bytes(&mut ahead) else {
         return None;
     };
     let Some(text) = behind_key(key, word) else {
@@ -181,19 +189,23 @@ fn required_number(key: &str, words: &mut Words<'_>) -> Fit
 fn elected_by(word: &[u8]) -> Fit
     ensures { result ≡ spec.elected_by word.now }
 {
-    if is("none", word) { Fit::Fits } else { wide_number(word) }
+    if is("none", word) {
+        Fit::Fits
+    } else {
+        wide_number(word)
+    }
 }
 
 fn by_form(words: &mut Words<'_>) -> Fit
     ensures { result ≡ spec.by_form words.old }
 {
-    let Some(first) = words.next_bytes() else {
+    let Some(first) = next_bytes(words) else {
         return Fit::Fits;
     };
-    let Some(id) = words.next_bytes() else {
+    let Some(id) = next_bytes(words) else {
         return Fit::Unlike;
     };
-    let Some(_) = words.next_bytes() else {
+    let Some(_) = next_bytes(words) else {
         return both(fits_if(is("by", first)), elected_by(id));
     };
     Fit::Unlike
@@ -263,19 +275,19 @@ fn payload_form(kind: &[u8], words: &mut Words<'_>) -> Fit
 pub fn put_form(words: &mut Words<'_>) -> Fit
     ensures { result ≡ spec.put_form words.old }
 {
-    let Some(_call) = words.next_bytes() else {
+    let Some(_call) = next_bytes(words) else {
         return Fit::Unlike;
     };
-    let Some(id) = words.next_bytes() else {
+    let Some(id) = next_bytes(words) else {
         return Fit::Unlike;
     };
-    let Some(_instance) = words.next_bytes() else {
+    let Some(_instance) = next_bytes(words) else {
         return Fit::Unlike;
     };
-    let Some(kind) = words.next_bytes() else {
+    let Some(kind) = next_bytes(words) else {
         return Fit::Unlike;
     };
-    let Some(key) = words.next_bytes() else {
+    let Some(key) = next_bytes(words) else {
         return Fit::Unlike;
     };
     let payload = payload_form(kind, words);
@@ -286,19 +298,19 @@ pub fn put_form(words: &mut Words<'_>) -> Fit
 pub fn delete_form(words: &mut Words<'_>) -> Fit
     ensures { result ≡ spec.delete_form words.old }
 {
-    let Some(_call) = words.next_bytes() else {
+    let Some(_call) = next_bytes(words) else {
         return Fit::Unlike;
     };
-    let Some(id) = words.next_bytes() else {
+    let Some(id) = next_bytes(words) else {
         return Fit::Unlike;
     };
-    let Some(_instance) = words.next_bytes() else {
+    let Some(_instance) = next_bytes(words) else {
         return Fit::Unlike;
     };
-    let Some(kind) = words.next_bytes() else {
+    let Some(kind) = next_bytes(words) else {
         return Fit::Unlike;
     };
-    let Some(key) = words.next_bytes() else {
+    let Some(key) = next_bytes(words) else {
         return Fit::Unlike;
     };
     let by = by_form(words);

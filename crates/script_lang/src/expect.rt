@@ -1,12 +1,12 @@
 ghost use Rattle.std.specs.Prelude.{◌≡◌};
 ghost use Rattle.script_lang.specs.Forms as spec;
 
+use crate::fault::ScriptFaultKind;
 use crate::fit::{both, fits_if, is};
 use crate::form::judged;
 use crate::line::Row;
 use crate::number::{number, wide_number};
-use crate::fault::ScriptFaultKind;
-use crate::words::Words;
+use crate::words::{Words, next_bytes};
 
 fn is_first_status(word: &[u8]) -> bool
     ensures { result ≡ spec.is_first_status word.now }
@@ -87,7 +87,10 @@ fn expect_two(item: &[u8], what: &[u8]) -> Result<Row, ScriptFaultKind>
     } else if is("end", item) {
         judged(Row::ExpectEnd, fits_if(is_status(what)))
     } else {
-        judged(Row::ExpectResult, both(number(item), fits_if(is_success(what))))
+        judged(
+            Row::ExpectResult,
+            both(number(item), fits_if(is_success(what))),
+        )
     }
 }
 
@@ -112,19 +115,19 @@ fn expect_three(item: &[u8], what: &[u8], reason: &[u8]) -> Result<Row, ScriptFa
 pub fn expect_row(words: &mut Words<'_>) -> Result<Row, ScriptFaultKind>
     ensures { result ≡ spec.expect_row words.old }
 {
-    let Some(_call) = words.next_bytes() else {
+    let Some(_call) = next_bytes(words) else {
         return Err(ScriptFaultKind::BadShape);
     };
-    let Some(item) = words.next_bytes() else {
+    let Some(item) = next_bytes(words) else {
         return Err(ScriptFaultKind::BadShape);
     };
-    let Some(what) = words.next_bytes() else {
+    let Some(what) = next_bytes(words) else {
         return expect_one(item);
     };
-    let Some(reason) = words.next_bytes() else {
+    let Some(reason) = next_bytes(words) else {
         return expect_two(item, what);
     };
-    let Some(_) = words.next_bytes() else {
+    let Some(_) = next_bytes(words) else {
         return expect_three(item, what, reason);
     };
     Err(ScriptFaultKind::BadShape)

@@ -3,11 +3,11 @@ ghost use Rattle.script_lang.specs.Forms as spec;
 
 use crate::entry::{delete_form, put_form};
 use crate::expect::expect_row;
+use crate::fault::ScriptFaultKind;
 use crate::fit::{Fit, both, fits_if, is};
 use crate::line::Row;
 use crate::number::wide_number;
-use crate::fault::ScriptFaultKind;
-use crate::words::Words;
+use crate::words::{Words, next_bytes};
 
 pub fn judged(row: Row, fit: Fit) -> Result<Row, ScriptFaultKind>
     ensures { result ≡ spec.judged row fit }
@@ -50,10 +50,10 @@ pub fn row_behind(first: &[u8], words: &mut Words<'_>) -> Result<Row, ScriptFaul
 fn call_form(words: &mut Words<'_>) -> Fit
     ensures { result ≡ spec.call_form words.old }
 {
-    let Some(_call) = words.next_bytes() else {
+    let Some(_call) = next_bytes(words) else {
         return Fit::Unlike;
     };
-    let Some(_) = words.next_bytes() else {
+    let Some(_) = next_bytes(words) else {
         return Fit::Fits;
     };
     Fit::Unlike
@@ -70,19 +70,19 @@ fn is_params(redundancy: &[u8], persistence: &[u8], ack: &[u8]) -> bool
 fn params_form(words: &mut Words<'_>) -> Fit
     ensures { result ≡ spec.params_form words.old }
 {
-    let Some(_call) = words.next_bytes() else {
+    let Some(_call) = next_bytes(words) else {
         return Fit::Unlike;
     };
-    let Some(redundancy) = words.next_bytes() else {
+    let Some(redundancy) = next_bytes(words) else {
         return Fit::Unlike;
     };
-    let Some(persistence) = words.next_bytes() else {
+    let Some(persistence) = next_bytes(words) else {
         return Fit::Unlike;
     };
-    let Some(ack) = words.next_bytes() else {
+    let Some(ack) = next_bytes(words) else {
         return Fit::Unlike;
     };
-    let Some(_) = words.next_bytes() else {
+    let Some(_) = next_bytes(words) else {
         return fits_if(is_params(redundancy, persistence, ack));
     };
     Fit::Unlike
@@ -91,13 +91,13 @@ fn params_form(words: &mut Words<'_>) -> Fit
 fn elect_form(words: &mut Words<'_>) -> Fit
     ensures { result ≡ spec.elect_form words.old }
 {
-    let Some(_call) = words.next_bytes() else {
+    let Some(_call) = next_bytes(words) else {
         return Fit::Unlike;
     };
-    let Some(id) = words.next_bytes() else {
+    let Some(id) = next_bytes(words) else {
         return Fit::Unlike;
     };
-    let Some(_) = words.next_bytes() else {
+    let Some(_) = next_bytes(words) else {
         return wide_number(id);
     };
     Fit::Unlike
@@ -117,16 +117,16 @@ fn is_get_kind(word: &[u8]) -> bool
 fn get_form(words: &mut Words<'_>) -> Fit
     ensures { result ≡ spec.get_form words.old }
 {
-    let Some(_call) = words.next_bytes() else {
+    let Some(_call) = next_bytes(words) else {
         return Fit::Unlike;
     };
-    let Some(_instance) = words.next_bytes() else {
+    let Some(_instance) = next_bytes(words) else {
         return Fit::Unlike;
     };
-    let Some(kind) = words.next_bytes() else {
+    let Some(kind) = next_bytes(words) else {
         return Fit::Unlike;
     };
-    let Some(_) = words.next_bytes() else {
+    let Some(_) = next_bytes(words) else {
         return fits_if(is_get_kind(kind));
     };
     Fit::Unlike
@@ -135,19 +135,19 @@ fn get_form(words: &mut Words<'_>) -> Fit
 fn flush_form(words: &mut Words<'_>) -> Fit
     ensures { result ≡ spec.flush_form words.old }
 {
-    let Some(_call) = words.next_bytes() else {
+    let Some(_call) = next_bytes(words) else {
         return Fit::Unlike;
     };
-    let Some(way) = words.next_bytes() else {
+    let Some(way) = next_bytes(words) else {
         return Fit::Unlike;
     };
-    let Some(third) = words.next_bytes() else {
+    let Some(third) = next_bytes(words) else {
         return Fit::Unlike;
     };
-    let Some(_instance) = words.next_bytes() else {
+    let Some(_instance) = next_bytes(words) else {
         return fits_if(is("override", way));
     };
-    let Some(_) = words.next_bytes() else {
+    let Some(_) = next_bytes(words) else {
         return both(fits_if(is("id", way)), wide_number(third));
     };
     Fit::Unlike

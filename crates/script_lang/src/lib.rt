@@ -15,11 +15,13 @@ mod fit;
 mod form;
 mod line;
 mod number;
+mod print;
 mod read;
 mod split;
 mod words;
 
 pub use fault::{ScriptFault, ScriptFaultKind};
 pub use line::{Line, LineText, NumberedLine, Row, Script};
+pub use print::print_script;
 pub use read::read_script;
 pub use words::Words;

@@ -2,7 +2,7 @@ ghost use Rattle.std.specs.Prelude.{◌≡◌, IfOk};
 ghost use Rattle.script_lang.specs.Words as text_of;
 ghost use Rattle.script_lang.specs.Lines as spec;
 
-use crate::words::Words;
+use crate::words::{Words, next_bytes};
 use std::alloc::{AllocError, Global};
 use std::marker::Model;
 use vec_list::VecList;
@@ -41,21 +41,21 @@ impl Model for LineText {
 }
 
 impl LineText {
-    /// A copy of a line's text.
-    pub fn new(alloc: Global, line: &str) -> Result<LineText, AllocError>
-        ensures { IfOk result (λ text. text ≡ text_of.words line.now) }
-    {
-        Ok(LineText {
-            text: String::from_str(alloc, line)?,
-        })
-    }
-
     /// The words.
     pub fn words(&self) -> Words<'_>
         ensures { result ≡ self.now }
     {
         Words::new(self.text.as_str())
     }
+}
+
+// A copy of a line's text.
+pub fn line_text(alloc: Global, line: &str) -> Result<LineText, AllocError>
+    ensures { IfOk result (λ text. text ≡ text_of.words line.now) }
+{
+    Ok(LineText {
+        text: String::from_str(alloc, line)?,
+    })
 }
 
 /// A line of a script. Contracts see it as its words, by `line_words` of `specs/Lines`.
@@ -100,27 +100,6 @@ pub struct NumberedLine {
 pub type Script = VecList<NumberedLine>;
 
 impl Line {
-    // A line of this row.
-    pub fn new(row: Row, text: LineText) -> Line
-        ensures { result ≡ spec.line_of row text }
-    {
-        match row {
-            Row::Modify => Line::Modify(text),
-            Row::Params => Line::Params(text),
-            Row::Elect => Line::Elect(text),
-            Row::Operate => Line::Operate(text),
-            Row::Close => Line::Close(text),
-            Row::Get => Line::Get(text),
-            Row::Flush => Line::Flush(text),
-            Row::ExpectParamsOk => Line::ExpectParamsOk(text),
-            Row::ExpectElected => Line::ExpectElected(text),
-            Row::ExpectResult => Line::ExpectResult(text),
-            Row::ExpectEntries => Line::ExpectEntries(text),
-            Row::ExpectFlushed => Line::ExpectFlushed(text),
-            Row::ExpectEnd => Line::ExpectEnd(text),
-        }
-    }
-
     /// The line's words.
     pub fn words(&self) -> Words<'_>
         ensures { result ≡ spec.line_words self.now }
@@ -141,17 +120,38 @@ impl Line {
             Line::ExpectEnd(text) => text.words(),
         }
     }
+}
 
-    // Whether the line begins a call of this name.
-    pub fn begins(&self, name: &[u8]) -> bool
-        ensures { result ≡ spec.begins name.now self.now }
-    {
-        match self {
-            Line::Modify(text) => text.names(name),
-            Line::Get(text) => text.names(name),
-            Line::Flush(text) => text.names(name),
-            _ => false,
-        }
+// A line of this row.
+pub fn line_of(row: Row, text: LineText) -> Line
+    ensures { result ≡ spec.line_of row text }
+{
+    match row {
+        Row::Modify => Line::Modify(text),
+        Row::Params => Line::Params(text),
+        Row::Elect => Line::Elect(text),
+        Row::Operate => Line::Operate(text),
+        Row::Close => Line::Close(text),
+        Row::Get => Line::Get(text),
+        Row::Flush => Line::Flush(text),
+        Row::ExpectParamsOk => Line::ExpectParamsOk(text),
+        Row::ExpectElected => Line::ExpectElected(text),
+        Row::ExpectResult => Line::ExpectResult(text),
+        Row::ExpectEntries => Line::ExpectEntries(text),
+        Row::ExpectFlushed => Line::ExpectFlushed(text),
+        Row::ExpectEnd => Line::ExpectEnd(text),
+    }
+}
+
+// Whether a line begins a call of this name.
+pub fn begins(name: &[u8], line: &Line) -> bool
+    ensures { result ≡ spec.begins name.now line.now }
+{
+    match line {
+        Line::Modify(text) => text.names(name),
+        Line::Get(text) => text.names(name),
+        Line::Flush(text) => text.names(name),
+        _ => false,
     }
 }
 
@@ -161,10 +161,10 @@ impl LineText {
         ensures { result ≡ spec.names name.now self.now }
     {
         let mut words = self.words();
-        if words.next_bytes().is_none() {
+        if next_bytes(&mut words).is_none() {
             return false;
         }
-        match words.next_bytes() {
+        match next_bytes(&mut words) {
             None => false,
             Some(second) => second == name,
         }

@@ -55,7 +55,13 @@ pub fn number(word: &[u8]) -> Fit
     }
     match value_of(word) {
         None => Fit::TooGreat,
-        Some(value) => { if value < 1 << 64 { Fit::Fits } else { Fit::TooGreat } }
+        Some(value) => {
+            if value < 1 << 64 {
+                Fit::Fits
+            } else {
+                Fit::TooGreat
+            }
+        }
     }
 }
 

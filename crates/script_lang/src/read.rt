@@ -6,9 +6,9 @@ ghost use Rattle.script_lang.specs.declared.fault.ScriptFaultKind.TheVariants as
 
 use crate::fault::{ScriptFault, ScriptFaultKind};
 use crate::form::row_behind;
-use crate::line::{Line, LineText, NumberedLine, Row, Script};
+use crate::line::{NumberedLine, Row, Script, begins, line_of, line_text};
 use crate::split::split_piece;
-use crate::words::Words;
+use crate::words::{Words, next_bytes};
 use std::alloc::{AllocError, Global};
 use std::str::from_utf8;
 use vec_list::VecList;
@@ -64,30 +64,31 @@ fn begins_call(row: Row) -> bool
 fn is_begun(name: &[u8], before: &[NumberedLine]) -> bool
     ensures { result ≡ spec.is_begun name.now before.now }
 {
-    before.iter().any(|l| l.line.begins(name))
+    before.iter().any(|l| begins(name, &l.line))
 }
 
 fn call_name<'a>(words: &Words<'a>) -> &'a [u8]
     ensures { result.now ≡ spec.call_name words.now }
 {
     let mut words = words.twin();
-    match words.next_bytes() {
+    match next_bytes(&mut words) {
         None => &[],
         Some(name) => name,
     }
 }
 
-fn named(
-    begun: bool,
-    row: Result<Row, ScriptFaultKind>,
-) -> Result<Option<Row>, ScriptFaultKind>
+fn named(begun: bool, row: Result<Row, ScriptFaultKind>) -> Result<Option<Row>, ScriptFaultKind>
     ensures { result ≡ spec.named begun row }
 {
     match row {
         Err(kind) => Err(kind),
         Ok(row) => {
             if begins_call(row) {
-                if begun { Err(ScriptFaultKind::NameTaken) } else { Ok(Some(row)) }
+                if begun {
+                    Err(ScriptFaultKind::NameTaken)
+                } else {
+                    Ok(Some(row))
+                }
             } else if begun {
                 Ok(Some(row))
             } else {
@@ -110,7 +111,7 @@ fn is_comment(word: &[u8]) -> bool
 fn words_row(before: &[NumberedLine], words: &mut Words<'_>) -> Result<Option<Row>, ScriptFaultKind>
     ensures { result ≡ spec.words_row before.now words.old }
 {
-    let Some(first) = words.next_bytes() else {
+    let Some(first) = next_bytes(words) else {
         return Ok(None);
     };
     if is_comment(first) {
@@ -129,8 +130,8 @@ fn add_line(
 ) -> Result<(), AllocError>
     ensures { OnOk result (script.new ≡ spec.with_line script.old number row (words line.now)) }
 {
-    let text = LineText::new(alloc, line)?;
-    let line = Line::new(row, text);
+    let text = line_text(alloc, line)?;
+    let line = line_of(row, text);
     script.push(NumberedLine { number, line })?;
     Ok(())
 }

@@ -60,14 +60,14 @@ impl<'a> Words<'a> {
         }
         None
     }
+}
 
-    /// The bytes of the next word. After `None` it answers the same again.
-    pub fn next_bytes(&mut self) -> Option<&'a [u8]>
-        ensures { MatchOption result ((self.old ≡ []) × (self.new ≡ [])) (λ word. self.old ≡ word.now ∷ self.new) }
-    {
-        match self.next() {
-            None => None,
-            Some(word) => Some(word.as_bytes()),
-        }
+// The bytes of the next word.
+pub fn next_bytes<'a>(words: &mut Words<'a>) -> Option<&'a [u8]>
+    ensures { MatchOption result ((words.old ≡ []) × (words.new ≡ [])) (λ word. words.old ≡ word.now ∷ words.new) }
+{
+    match words.next() {
+        None => None,
+        Some(word) => Some(word.as_bytes()),
     }
 }
