@@ -3,3 +3,4 @@ pub mod Forms
 pub mod Lines
 pub mod Scripts
 pub mod Printed
+pub mod KeptLines

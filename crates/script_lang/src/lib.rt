@@ -13,6 +13,7 @@ mod expect;
 mod fault;
 mod fit;
 mod form;
+mod laws;
 mod line;
 mod number;
 mod print;
@@ -21,6 +22,7 @@ mod split;
 mod words;
 
 pub use fault::{ScriptFault, ScriptFaultKind};
+pub use laws::lines_are_kept;
 pub use line::{Line, LineText, NumberedLine, Row, Script};
 pub use print::print_script;
 pub use read::read_script;
