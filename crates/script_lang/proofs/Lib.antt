@@ -4,3 +4,4 @@ pub mod Pieces
 pub mod Reading
 pub mod Printing
 pub mod Keeping
+pub mod WordsAgain

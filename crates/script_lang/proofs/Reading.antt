@@ -1,13 +1,11 @@
 -- Steps of reading a script.
-use Rattle.std.proofs.Common.{◌≡◌, ℕ, ◌+◌, ◌<◌, ◌≤◌, Bool, true, false, List, [], ◌∷◌, Result, Ok, Err, refl, sym, ap, ◌∙◌, length, arith}
+use Rattle.std.proofs.Common.{◌≡◌, ℕ, ◌+◌, ◌<◌, true, false, List, ◌∷◌, Ok, Err, ap, length, arith}
 use Rattle.std.proofs.lemmas.Bool.Decides.{nat_tests}
 use Rattle.std.proofs.lemmas.Str.{utf8_valid_len-IsUtf8, utf8_valid_len-IsValidUpTo}
 use Rattle.std.specs.Prelude.{◌==◌, IsUtf8}
 use Rattle.std.specs.Str.{IsValidUpTo}
-use Rattle.std.specs.Str.Lossy.{utf8_valid_len}
 use Rattle.script_lang.specs.Scripts.{is_utf8, line_taken, goes_on, from}
 use Rattle.script_lang.specs.declared.line.NumberedLine.{NumberedLine}
-use Rattle.script_lang.specs.declared.fault.ScriptFault.{ScriptFault}
 use Rattle.script_lang.specs.declared.fault.ScriptFaultKind.{ScriptFaultKind}
 
 -- a line that is taken

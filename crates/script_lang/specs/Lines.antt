@@ -1,5 +1,5 @@
 -- A line as the list of its words.
-use Rattle.std.specs.Prelude.{ℕ, Bool, true, false, List, [], ◌∷◌}
+use Rattle.std.specs.Prelude.{ℕ, Bool, false, List, ◌∷◌}
 use Rattle.std.specs.Str.{bytes_eq}
 use Rattle.script_lang.specs.declared.line.Row.{Row}
 use Rattle.script_lang.specs.declared.line.Row.TheVariants as row

@@ -1,5 +1,5 @@
 -- A script: the lines of a text that are not skipped, or the first fault of its lines.
-use Rattle.std.specs.Prelude.{ℕ, suc, ◌+◌, ◌==◌, nat_lt, Bool, true, false, ◌||◌, not, if◌then◌else◌, List, [], ◌∷◌, ◌++◌, take, length, slice_index_or, Option, Some, None, Result, Ok, Err}
+use Rattle.std.specs.Prelude.{ℕ, ◌+◌, ◌==◌, nat_lt, Bool, true, false, ◌||◌, if◌then◌else◌, List, [], ◌∷◌, ◌++◌, take, length, slice_index_or, Option, Some, None, Result, Ok, Err}
 use Rattle.std.specs.List.{list_any, count_by}
 use Rattle.std.specs.Str.Lossy.{utf8_valid_len}
 use Rattle.script_lang.specs.Words.{lines, words}
@@ -77,11 +77,16 @@ taken before number words (Err kind) = Err kind
 taken before number words (Ok None) = Ok before
 taken before number words (Ok (Some row)) = Ok (with_line before number row words)
 
+abbrev pub words_taken : List NumberedLine → ℕ → List (List ℕ) → Result (List NumberedLine) ScriptFaultKind
+words_taken before number words = taken before number words (words_row before words)
+
 abbrev pub line_taken : ℕ → List NumberedLine → ℕ → List ℕ → Result (List NumberedLine) ScriptFaultKind
 line_taken long before number line = taken before number (words line) (line_row long before number line)
 
 -- the fault of the line with this number, or what the lines behind it make of what is kept so far
-abbrev pub goes_on : ℕ → (List NumberedLine → Result (List NumberedLine) ScriptFault) → Result (List NumberedLine) ScriptFaultKind → Result (List NumberedLine) ScriptFault
+abbrev pub goes_on :
+    ℕ → (List NumberedLine → Result (List NumberedLine) ScriptFault) → Result (List NumberedLine) ScriptFaultKind
+    → Result (List NumberedLine) ScriptFault
 goes_on number behind (Err kind) = Err (record { line = number; kind = kind })
 goes_on number behind (Ok kept) = behind kept
 

@@ -18,6 +18,9 @@ lines text = ended_by 10 text
 abbrev pub is_some_text : List ℕ → Bool
 is_some_text text = not (length text == 0)
 
+abbrev pub parts : List ℕ → List (List ℕ)
+parts line = slice_split (λ c. c == 32) line
+
 -- the words, parted by spaces
 unfoldable pub words : List ℕ → List (List ℕ)
-words line = filter is_some_text (slice_split (λ c. c == 32) line)
+words line = filter is_some_text (parts line)

@@ -143,8 +143,8 @@ fn take_text(
     number: u32,
     text: &str,
 ) -> Result<(), ScriptFaultKind>
-    ensures ok { OnOk result (spec.taken script.old number (words text.now) (spec.words_row script.old (words text.now)) ≡ Ok script.new) }
-    ensures err { IfErr result (λ k. (k ≡ kind.NoMemory) ⊎ (spec.taken script.old number (words text.now) (spec.words_row script.old (words text.now)) ≡ Err k)) }
+    ensures ok { OnOk result (spec.words_taken script.old number (words text.now) ≡ Ok script.new) }
+    ensures err { IfErr result (λ k. (k ≡ kind.NoMemory) ⊎ (spec.words_taken script.old number (words text.now) ≡ Err k)) }
 {
     match words_row(script.as_slice(), &mut Words::new(text)) {
         Err(kind) => Err(kind),
@@ -182,7 +182,7 @@ fn take_line(
 #[tactic(auto, using(crate::proofs::Reading::from_taken, crate::proofs::Reading::from_fault))]
 fn read_lines(alloc: Global, text: &[u8], script: &mut Script) -> Result<(), ScriptFault>
     ensures ok { OnOk result (spec.from (spec.long_line text.now) script.old 1 (lines text.now) ≡ Ok script.new) }
-    ensures err { IfErr result (λ fault. (fault.kind ≡ kind.NoMemory) ⊎ (spec.from (spec.long_line text.now) script.old 1 (lines text.now) ≡ Err fault)) }
+    ensures err { IfErr result (λ f. (f.kind ≡ kind.NoMemory) ⊎ (spec.from (spec.long_line text.now) script.old 1 (lines text.now) ≡ Err f)) }
 {
     let long = long_line(text);
     let mut number: u32 = 1;

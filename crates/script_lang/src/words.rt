@@ -1,5 +1,5 @@
 ghost use Rattle.std.specs.Prelude.{◌≡◌, ◌<◌, ◌==◌, ◌∷◌, [], MatchOption, length};
-ghost use Rattle.std.specs.List.{filter, slice_split};
+ghost use Rattle.std.specs.List.{filter};
 ghost use Rattle.script_lang.specs.Words as text_of;
 
 use std::marker::Model;
@@ -22,7 +22,7 @@ impl<'a> Model for Words<'a> {
 // What stands before and after the first space.
 #[tactic(auto, using(crate::proofs::Pieces::split_none, crate::proofs::Pieces::split_found, crate::proofs::Pieces::split_shorter))]
 fn split_space(text: &str) -> (&str, &str)
-    ensures parts { filter text_of.is_some_text (slice_split (λ c. c == 32) text.now) ≡ filter text_of.is_some_text (result.0.now ∷ slice_split (λ c. c == 32) result.1.now) }
+    ensures parts { filter text_of.is_some_text (text_of.parts text.now) ≡ filter text_of.is_some_text (result.0.now ∷ text_of.parts result.1.now) }
     ensures shorter { 0 < length text.now → length result.1.now < length text.now }
 {
     match text.split_once(' ') {

@@ -1,4 +1,4 @@
-use Rattle.std.proofs.Common.{◌≡◌, ◌^◌, length}
+use Rattle.std.proofs.Common.{◌≡◌, length}
 use Rattle.script_lang.specs.Words.{ended_by}
 use Rattle.script_lang.specs.Forms.{both, each, member}
 use Rattle.script_lang.proofs.entry.each_member.Given as goal
