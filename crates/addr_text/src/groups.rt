@@ -5,7 +5,7 @@ ghost use Rattle.addr_text.specs.Counting.{counted, counted_from, IsSmall};
 use crate::number::{decimal, hextet};
 use crate::scan::{is_dotted, split_double_colon, split_once};
 
-// The number of an IPv4 text.
+/// The number of an IPv4 text.
 #[tactic(auto, using(crate::proofs::Scanning::quad_more), unfolding(crate::specs::AddressGrammar::v4_bits))]
 pub fn v4_bits(text: &[u8]) -> Option<u32>
     ensures { result ≡ spec.v4_bits text.now }
@@ -98,7 +98,7 @@ fn side(text: &[u8], tail: bool) -> Option<(u32, u128)>
     }
 }
 
-// The number of an IPv6 text.
+/// The number of an IPv6 text.
 #[tactic(auto, unfolding(crate::specs::AddressGrammar::v6_bits))]
 pub fn v6_bits(text: &[u8]) -> Option<u128>
     ensures { result ≡ spec.v6_bits text.now }

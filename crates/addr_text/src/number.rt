@@ -53,7 +53,7 @@ fn hex_digits(text: &[u8]) -> Option<u32>
     Some(number)
 }
 
-// A decimal number that is at most so large.
+/// A decimal number that is at most so large.
 #[tactic(auto, unfolding(crate::specs::AddressGrammar::decimal))]
 pub fn decimal(text: &[u8], most: u32) -> Option<u32>
     ensures value { result ≡ spec.decimal most text.now }
@@ -78,7 +78,7 @@ fn is_plain(text: &[u8]) -> bool
     text.len() == 1 || text[0] != b'0'
 }
 
-// A group of one to four hexadecimal digits.
+/// A group of one to four hexadecimal digits.
 #[tactic(auto, unfolding(crate::specs::AddressGrammar::hextet))]
 pub fn hextet(text: &[u8]) -> Option<u32>
     ensures value { result ≡ spec.hextet text.now }
@@ -90,7 +90,7 @@ pub fn hextet(text: &[u8]) -> Option<u32>
     hex_digits(text)
 }
 
-// A number of two hexadecimal digits.
+/// A number of two hexadecimal digits.
 pub fn octet(text: &[u8]) -> Option<u8>
     ensures { result ≡ spec.octet text.now }
 {

@@ -1,7 +1,7 @@
 ghost use Rattle.std.specs.Prelude.{◌≡◌, ◌≤◌, ◌+◌, length};
 ghost use Rattle.addr_text.specs.Printed as spec;
 
-// The place and the length of the longest run of zero groups, the first of equal ones.
+/// The place and the length of the longest run of zero groups, the first of equal ones.
 #[tactic(auto, using(crate::proofs::Longest::zeros_step, crate::proofs::Longest::longest_step, crate::proofs::Longest::place_step))]
 pub fn longest_run(groups: &[u16]) -> (usize, usize)
     ensures run { result.1 ≡ spec.longest groups.now }

@@ -1,7 +1,7 @@
 ghost use Rattle.std.specs.Prelude.{◌≡◌, ◌<◌, [], ◌∷◌, MatchOption, ⊤, ◌+◌, ◌==◌, ◌&&◌, slice_index, length, Some, None};
 ghost use Rattle.addr_text.specs.AddressGrammar as spec;
 
-// What stands before and after the first separator.
+/// What stands before and after the first separator.
 pub fn split_once(text: &[u8], separator: u8) -> Option<(&[u8], &[u8])>
     ensures parts { MatchOption result (spec.parts separator text.now ≡ text.now ∷ [])
         (λ halves. spec.parts separator text.now ≡ halves.0.now ∷ spec.parts separator halves.1.now) }
@@ -17,7 +17,7 @@ pub fn split_once(text: &[u8], separator: u8) -> Option<(&[u8], &[u8])>
     None
 }
 
-// What stands before and after the first `::`.
+/// What stands before and after the first `::`.
 pub fn split_double_colon(text: &[u8]) -> Option<(&[u8], &[u8])>
     ensures { MatchOption result (spec.at_double_colon text.now ≡ None) (λ halves. spec.at_double_colon text.now ≡ Some (halves.0.now, halves.1.now)) }
 {
@@ -40,6 +40,7 @@ fn is_double_colon(text: &[u8], place: usize) -> bool
     text[place] == b':' && text[place + 1] == b':'
 }
 
+/// Whether the text has a point, as an IPv4 text has.
 pub fn is_dotted(text: &[u8]) -> bool
     ensures { result ≡ spec.is_dotted text.now }
 {

@@ -17,6 +17,7 @@ use proto_wire::roll_back;
 use schema_numbers::{FieldName, Numbering};
 use std::alloc::AllocError;
 
+/// The bytes of a name, if there is one.
 pub fn text_of(name: &Option<Name>) -> Option<&[u8]>
     ensures value { option_copied result ≡ name.now }
     ensures utf8 { IsText name.now }
@@ -89,7 +90,7 @@ fn write_tunnel(
     Ok(())
 }
 
-// All of a next hop but its labels.
+/// All of a next hop but its labels.
 pub fn write_hop_texts(
     n: &Numbering,
     addresses: (Option<&[u8]>, Option<&[u8]>),
@@ -113,6 +114,7 @@ pub fn write_hop_texts(
     Ok(())
 }
 
+/// Appends a label of the stack that a next hop pushes.
 #[tactic(auto, unfolding(crate::specs::Writing::pushed_label_field))]
 pub fn write_pushed_label(
     n: &Numbering,
@@ -180,6 +182,7 @@ fn write_weight(n: &Numbering, weight: Option<u64>, out: &mut Vec<u8>) -> Result
     Ok(())
 }
 
+/// Appends a member of a group: its next hop and its weight.
 #[tactic(auto, unfolding(crate::specs::Writing::member_field))]
 pub fn write_member(
     n: &Numbering,
@@ -286,6 +289,7 @@ fn write_prefix_route(
     Ok(())
 }
 
+/// Appends the message of an IPv4 entry.
 pub fn write_ipv4(
     n: &Numbering,
     prefix: &[u8],
@@ -306,6 +310,7 @@ pub fn write_ipv4(
     write_prefix_route(key, prefix, fields, group, instance, out)
 }
 
+/// Appends the message of an IPv6 entry.
 pub fn write_ipv6(
     n: &Numbering,
     prefix: &[u8],
@@ -326,6 +331,7 @@ pub fn write_ipv6(
     write_prefix_route(key, prefix, fields, group, instance, out)
 }
 
+/// Appends the message of an MPLS entry.
 pub fn write_mpls(
     n: &Numbering,
     label: Option<u64>,

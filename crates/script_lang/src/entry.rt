@@ -271,6 +271,7 @@ fn payload_form(kind: &[u8], words: &mut Words<'_>) -> Fit
     }
 }
 
+/// Whether the words are an entry to add or replace.
 #[tactic(auto, unfolding(crate::specs::Forms::put_form))]
 pub fn put_form(words: &mut Words<'_>) -> Fit
     ensures { result ≡ spec.put_form words.old }
@@ -294,6 +295,7 @@ pub fn put_form(words: &mut Words<'_>) -> Fit
     both(number(id), both(key_form(kind, key), payload))
 }
 
+/// Whether the words are the key of an entry to delete.
 #[tactic(auto, unfolding(crate::specs::Forms::delete_form))]
 pub fn delete_form(words: &mut Words<'_>) -> Fit
     ensures { result ≡ spec.delete_form words.old }

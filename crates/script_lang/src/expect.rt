@@ -112,6 +112,7 @@ fn expect_three(item: &[u8], what: &[u8], reason: &[u8]) -> Result<Row, ScriptFa
     }
 }
 
+/// Reads the words of an `expect` line, behind its first.
 pub fn expect_row(words: &mut Words<'_>) -> Result<Row, ScriptFaultKind>
     ensures { result ≡ spec.expect_row words.old }
 {

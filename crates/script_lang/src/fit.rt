@@ -12,7 +12,7 @@ pub enum Fit {
     Unlike,
 }
 
-// Whether both parts have their forms.
+/// Whether both parts have their forms.
 pub fn both(first: Fit, second: Fit) -> Fit
     ensures { result ≡ spec.both first second }
 {
@@ -29,13 +29,14 @@ pub fn both(first: Fit, second: Fit) -> Fit
     }
 }
 
+/// A fit where the condition holds, and else a bad shape.
 pub fn fits_if(holds: bool) -> Fit
     ensures { result ≡ spec.fits_if holds }
 {
     if holds { Fit::Fits } else { Fit::Unlike }
 }
 
-// Whether a word is this text.
+/// Whether a word is this text.
 pub fn is(text: &str, word: &[u8]) -> bool
     ensures { result ≡ spec.is text.now word.now }
 {

@@ -9,6 +9,7 @@ use crate::line::Row;
 use crate::number::wide_number;
 use crate::words::{Words, next_bytes};
 
+/// The row, where its words fit, and else what is wrong with them.
 pub fn judged(row: Row, fit: Fit) -> Result<Row, ScriptFaultKind>
     ensures { result ≡ spec.judged row fit }
 {
@@ -19,7 +20,7 @@ pub fn judged(row: Row, fit: Fit) -> Result<Row, ScriptFaultKind>
     }
 }
 
-// The row of the line's words behind the first one.
+/// The row of the line's words behind the first one.
 #[tactic(auto, unfolding(crate::specs::Forms::row_behind))]
 pub fn row_behind(first: &[u8], words: &mut Words<'_>) -> Result<Row, ScriptFaultKind>
     ensures { result ≡ spec.row_behind first.now words.old }

@@ -49,7 +49,7 @@ impl LineText {
     }
 }
 
-// A copy of a line's text.
+/// A copy of a line's text.
 pub fn line_text(alloc: Global, line: &str) -> Result<LineText, AllocError>
     ensures { IfOk result (λ text. text ≡ text_of.words line.now) }
 {
@@ -122,7 +122,7 @@ impl Line {
     }
 }
 
-// A line of this row.
+/// A line of this row.
 pub fn line_of(row: Row, text: LineText) -> Line
     ensures { result ≡ spec.line_of row text }
 {
@@ -143,7 +143,7 @@ pub fn line_of(row: Row, text: LineText) -> Line
     }
 }
 
-// Whether a line begins a call of this name.
+/// Whether a line begins a call of this name.
 pub fn begins(name: &[u8], line: &Line) -> bool
     ensures { result ≡ spec.begins name.now line.now }
 {

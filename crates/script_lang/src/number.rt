@@ -45,7 +45,7 @@ pub fn value_of(digits: &[u8]) -> Option<u128>
     Some(number)
 }
 
-// A number of 64 bits.
+/// A number of 64 bits.
 #[tactic(auto, unfolding(crate::specs::Forms::number))]
 pub fn number(word: &[u8]) -> Fit
     ensures { result ≡ spec.number (2 ^ 64) word.now }
@@ -65,7 +65,7 @@ pub fn number(word: &[u8]) -> Fit
     }
 }
 
-// A number of 128 bits.
+/// A number of 128 bits.
 #[tactic(auto, unfolding(crate::specs::Forms::number))]
 pub fn wide_number(word: &[u8]) -> Fit
     ensures { result ≡ spec.number (2 ^ 128) word.now }

@@ -1,7 +1,7 @@
 ghost use Rattle.std.specs.Prelude.{◌≡◌, ◌<◌, [], ◌∷◌, MatchOption, ⊤, length};
 ghost use Rattle.script_lang.specs.Words.{ended_by};
 
-// The first piece that the mark ends, and what stands behind the mark; the last piece may lack it.
+/// The first piece that the mark ends, and what stands behind the mark; the last piece may lack it.
 #[tactic(auto, using(crate::proofs::Pieces::pieces_start, crate::proofs::Pieces::pieces_more, crate::proofs::Pieces::pieces_found))]
 pub fn split_piece(text: &[u8], mark: u8) -> Option<(&[u8], &[u8])>
     ensures pieces { MatchOption result (text.now ≡ [])

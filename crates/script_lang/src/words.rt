@@ -62,7 +62,7 @@ impl<'a> Words<'a> {
     }
 }
 
-// The bytes of the next word.
+/// The bytes of the next word.
 pub fn next_bytes<'a>(words: &mut Words<'a>) -> Option<&'a [u8]>
     ensures { MatchOption result ((words.old ≡ []) × (words.new ≡ [])) (λ word. words.old ≡ word.now ∷ words.new) }
 {
