@@ -6,7 +6,7 @@ use Rattle.std.proofs.lemmas.List.{take-map, drop-map, map-append, map-set}
 use Rattle.aft_entries.specs.declared.entry.Entry.{Entry}
 use Rattle.aft_store.specs.Boxes.{unboxed}
 
-abbrev in_box : Box Entry Global → Entry
+abbrev pub in_box : Box Entry Global → Entry
 in_box b = b.value
 
 module _ (boxes : List (Box Entry Global)) (at : ℕ) (b : Box Entry Global) where

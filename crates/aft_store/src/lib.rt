@@ -12,9 +12,11 @@
 #![tactic(auto)]
 
 mod boxes;
+mod parting;
 mod place;
 mod scan;
 mod store;
 
+pub use parting::has_mark;
 pub use scan::{has, is_used, resolves};
 pub use store::Store;

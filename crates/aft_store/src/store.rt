@@ -2,11 +2,16 @@ ghost use Rattle.std.specs.Prelude.{◌≡◌, ◌+◌, ◌≤◌, ◌<◌, ◌�
 ghost use Rattle.table_model.specs.Table.{lookup, has, put, take_out};
 ghost use Rattle.aft_store.specs.Boxes.{unboxed, IsLaidOut};
 ghost use Rattle.aft_store.specs.StoreState.{StoreState};
+ghost use Rattle.aft_store.specs.Marked.{chosen, unchosen};
+ghost use Rattle.std.specs.VecDeque.{deque_capacity};
+ghost use Rattle.table_model.specs.Jobs.{removed};
 
 use crate::boxes::{add_boxes, insert_box, take_box};
+use crate::parting::{move_all, move_marked};
 use crate::place::place_of;
 use aft_entries::{Entry, Key, Payload};
 use std::alloc::{AllocError, Global};
+use std::collections::VecDeque;
 use std::marker::Model;
 
 /// Entries in key order, and room for more. The key of each place is before that of the next.
@@ -109,6 +114,20 @@ impl Store {
             Ok(at) => Some(Box::into_inner(self.entries.remove(at))),
             Err(_) => None,
         }
+    }
+
+    /// Moves the boxes of the entries that have no mark, in key order, into a list that has room for all, in place of
+    /// what was there. An entry behind the last mark has none. This takes no memory.
+    pub fn move_unmarked(&mut self, marks: &[bool], gone: &mut VecDeque<Box<Entry>>)
+        requires { length self.old.entries ≤ deque_capacity gone.old }
+        ensures entries { self.new.entries ≡ chosen marks.now self.old.entries }
+        ensures spare { self.old.spare ≤ self.new.spare }
+        ensures gone { unboxed gone.new.items ≡ unchosen marks.now self.old.entries }
+        ensures removed { unboxed gone.new.items ≡ removed self.old.entries self.new.entries }
+        ensures capacity { deque_capacity gone.old ≤ deque_capacity gone.new }
+    {
+        move_all(&mut self.entries, gone);
+        move_marked(gone, marks, &mut self.entries);
     }
 
     /// Removes all entries.

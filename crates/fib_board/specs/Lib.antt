@@ -2,3 +2,4 @@ pub mod Steps
 pub mod BoardInvariant
 pub mod Follows
 pub mod BoxedWork
+pub mod Removals

@@ -4,6 +4,7 @@ ghost use Rattle.aft_entries.specs.Order.{key_eq};
 ghost use Rattle.aft_entries.specs.References as references;
 ghost use Rattle.table_model.specs.Jobs as history;
 ghost use Rattle.fib_board.specs.BoxedWork.{work_in, entry_in};
+ghost use Rattle.fib_board.specs.Removals.{removal};
 
 use aft_entries::{Entry, Key, refers};
 use std::alloc::{AllocError, Global};
@@ -73,6 +74,22 @@ impl BoxedJob {
             displaced,
             copy,
         })
+    }
+
+    /// The job that removes an entry which left the table with no operation of a session. It keeps the entry's box, and
+    /// takes no memory.
+    pub fn removal(number: JobNumber, displaced: Box<Entry>) -> BoxedJob
+        ensures { result ≡ removal number displaced.value }
+    {
+        BoxedJob {
+            number,
+            id: 0,
+            owner: None,
+            wants: false,
+            work: BoxedWork::Remove(entry_key(&displaced)),
+            displaced: Some(displaced),
+            copy: None,
+        }
     }
 }
 

@@ -67,6 +67,13 @@ impl Marks {
         self.marks[n as usize]
     }
 
+    /// The marks, in key order.
+    pub fn as_slice(&self) -> &[bool]
+        ensures { result.now ≡ self.now.values }
+    {
+        self.marks.as_slice()
+    }
+
     /// Marks the entries of instances that the flush doesn't name.
     pub(crate) fn start(&mut self, store: &Store, which: Which)
         requires { length store.now.entries ≤ self.old.room }

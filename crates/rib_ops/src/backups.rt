@@ -17,6 +17,15 @@ pub fn is_too_deep(store: &Store, entry: &Entry) -> bool
     is_too_deep_with(store, &key, backup_of(entry))
 }
 
+/// How many groups the chain of backups has that begins with this group, at most four.
+#[tactic(auto, unfolding(table_model::specs::Table::depth))]
+pub fn depth(store: &Store, group: &Key) -> u64
+    ensures length { result ≡ spec.depth store.now.entries group.now }
+    ensures bound { result ≤ 4 }
+{
+    chain_length(store, Some(*group), 4)
+}
+
 #[tactic(auto, unfolding(table_model::specs::Table::depth))]
 fn is_too_deep_with(store: &Store, key: &Key, backup: Option<Key>) -> bool
     ensures { result ≡ spec.is_too_deep_with store.now.entries key.now backup }

@@ -15,4 +15,5 @@ mod backups;
 mod check;
 mod operate;
 
+pub use backups::depth;
 pub use operate::{judge, perform};

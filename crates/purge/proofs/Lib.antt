@@ -1,0 +1,4 @@
+pub mod Passing
+pub mod Turning
+pub mod Falling
+pub mod Parts

@@ -1,0 +1,2 @@
+pub mod RoomState
+pub mod Ranked
