@@ -52,3 +52,7 @@ pub item_small : (fs : List Field) (i : ℕ) (f : Field) → i < length fs → f
 item_small [] i f lt e = absurd (omega arith)
 item_small (x ∷ xs) zero f lt e = rw e (omega (arith, sum_by-cons size_of x xs))
 item_small (x ∷ xs) (suc i) f lt e = omega (arith, sum_by-cons size_of x xs, item_small xs i f (omega (arith, lt)) e)
+
+-- a field and those behind it
+pub sum_here : (fs : List Field) (i : ℕ) (f : Field) → i < length fs → f ≡ get_or fs i f → sum_by size_of (drop i fs) ≡ size_of f + sum_by size_of (drop (i + 1) fs)
+sum_here fs i f lt e = ap (sum_by size_of) (one_front fs i f lt e) ∙ sum_by-cons size_of f (drop (i + 1) fs)

@@ -25,7 +25,7 @@ mod string;
 mod table;
 
 pub use decoder::HeaderDecoder;
-pub use encoder::{EncodedBlock, HeaderEncoder, Style};
+pub use encoder::{EncodedBlock, HeaderEncoder, Style, block_room};
 pub use fault::HpackFault;
 pub use field::Field;
 pub use field::malformed::{is_malformed_request, is_malformed_response, is_malformed_trailers};
