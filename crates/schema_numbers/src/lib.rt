@@ -8,8 +8,11 @@
 //! ```
 #![tactic(auto)]
 
+mod checked;
+mod draft;
 mod names;
 mod numbering;
 
+pub use draft::NumberingDraft;
 pub use names::{FieldName, ValueName};
 pub use numbering::{Numbering, default_numbering};

@@ -9,7 +9,7 @@ use std::alloc::{AllocError, Global};
 use std::marker::Model;
 
 // The default numbers of the fields, in the order of their names.
-const FIELDS: [u32; 77] = [
+pub(crate) const FIELDS: [u32; 77] = [
     // a ModifyRequest
     1, 2, 3,
     // an AFTOperation
@@ -69,7 +69,7 @@ const FIELDS: [u32; 77] = [
 ];
 
 // The default numbers of the enumerators, in the order of their names.
-const VALUES: [u64; 28] = [
+pub(crate) const VALUES: [u64; 28] = [
     // op
     1, 2, 3,
     // redundancy
@@ -113,14 +113,14 @@ impl Model for Numbering {
     ghost invariant = { λ n. IsValid (record { fields = n.fields.items; values = n.values.items }) };
 }
 
-fn field_place(item: FieldName) -> usize
+pub(crate) fn field_place(item: FieldName) -> usize
     ensures value { result ≡ field_place item }
     ensures within { result < 77 }
 {
     item as usize
 }
 
-fn value_place(item: ValueName) -> usize
+pub(crate) fn value_place(item: ValueName) -> usize
     ensures value { result ≡ value_place item }
     ensures within { result < 28 }
 {
@@ -128,6 +128,14 @@ fn value_place(item: ValueName) -> usize
 }
 
 impl Numbering {
+    // The numbering of numbers that are valid.
+    pub(crate) fn checked(fields: Vec<u32>, values: Vec<u64>) -> Numbering
+        requires { IsValid (record { fields = fields.items; values = values.items }) }
+        ensures { result ≡ record { fields = fields.items; values = values.items } }
+    {
+        Numbering { fields, values }
+    }
+
     /// The number of a field.
     #[tactic(auto, unfolding(crate::specs::Numbers::field_of))]
     pub fn field(&self, item: FieldName) -> u32
