@@ -24,10 +24,23 @@ fn grow_to(alloc: Global, spare: &mut Vec<Box<Entry>>, count: usize) -> Result<(
     ensures kept { vec_len spare.old ≤ vec_len spare.new }
 {
     'boxes: while spare.len() < count {
-        let place = Box::new(alloc, blank())?;
+        let place = spare_box(alloc)?;
         spare.push(place)?;
     }
     Ok(())
+}
+
+/// A box for an entry to come.
+pub fn spare_box(alloc: Global) -> Result<Box<Entry>, AllocError> {
+    Ok(Box::new(alloc, blank())?)
+}
+
+/// Puts the entry into the box.
+pub fn fill_box(mut place: Box<Entry>, entry: Entry) -> Box<Entry>
+    ensures { result.value ≡ entry }
+{
+    drop(Box::replace(&mut place, entry));
+    place
 }
 
 // What a spare box holds. It has no memory of its own.
@@ -51,10 +64,7 @@ pub fn take_box(spare: &mut Vec<Box<Entry>>, entry: Entry) -> Box<Entry>
     ensures len { vec_len spare.new + 1 ≡ vec_len spare.old }
 {
     match spare.pop() {
-        Some(mut place) => {
-            drop(Box::replace(&mut place, entry));
-            place
-        }
+        Some(place) => fill_box(place, entry),
         None => unreachable!(),
     }
 }

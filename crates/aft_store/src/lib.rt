@@ -17,6 +17,7 @@ mod place;
 mod scan;
 mod store;
 
+pub use boxes::{fill_box, spare_box};
 pub use parting::has_mark;
 pub use scan::{has, is_used, resolves};
 pub use store::Store;

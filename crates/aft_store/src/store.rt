@@ -116,6 +116,18 @@ impl Store {
         }
     }
 
+    /// Removes the key, and answers its entry in the box where it stood, if it was there.
+    pub fn remove_box(&mut self, key: &Key) -> Option<Box<Entry>>
+        ensures removed { option_map (λ b. b.value) result ≡ lookup key.now self.old.entries }
+        ensures entries { self.new.entries ≡ take_out key.now self.old.entries }
+        ensures spare { self.old.spare ≤ self.new.spare }
+    {
+        match place_of(&self.entries, key) {
+            Ok(at) => Some(self.entries.remove(at)),
+            Err(_) => None,
+        }
+    }
+
     /// Moves the boxes of the entries that have no mark, in key order, into a list that has room for all, in place of
     /// what was there. An entry behind the last mark has none. This takes no memory.
     pub fn move_unmarked(&mut self, marks: &[bool], gone: &mut VecDeque<Box<Entry>>)

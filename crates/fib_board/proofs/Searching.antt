@@ -1,5 +1,5 @@
 -- A search from the front, place by place, for the first job that may start.
-use Rattle.std.proofs.Common.{◌≡◌, ℕ, zero, suc, ◌+◌, Bool, true, false, List, [], ◌∷◌, Some, None, length, take, drop, get_or, ◌<◌, refl, sym, ap, ◌∙◌, arith}
+use Rattle.std.proofs.Common.{◌≡◌, ℕ, zero, suc, ◌+◌, Bool, true, false, List, [], ◌∷◌, Some, None, length, take, get_or, ◌<◌, refl, sym, ap, ◌∙◌, arith}
 use Rattle.std.specs.Prelude.{slice_get, cond, not, ◌&&◌, ◌||◌, nat_lt}
 use Rattle.std.specs.List.{position, position_or_len, list_any, list_all}
 use Rattle.std.proofs.lemmas.Bool.Decides.{nat_tests}
@@ -10,7 +10,6 @@ use Rattle.table_model.proofs.Tests.{and_left, and_right}
 use Rattle.table_model.specs.declared.job.JobNumber.{JobNumber}
 use Rattle.table_model.specs.Jobs.{Task, TrackedTask, number_lt, on_shard, is_undone, is_waiting, conflict, is_blocked}
 use Rattle.fib_board.specs.BoardInvariant.{ascends, may_start}
-use Rattle.fib_board.proofs.Ascending.{unwrap_some}
 use Rattle.fib_board.proofs.Finding.{some_at}
 
 -- The jobs behind a job don't block it.
@@ -96,19 +95,12 @@ module _ {X : Type 0} (p : X → Bool) where
 
 -- A job is judged by those before it.
 
-behind_is : (jobs : List TrackedTask) (at : ℕ) (r tracked : TrackedTask) → slice_get jobs at ≡ Some tracked → r ≡ get_or (drop at jobs) 0 r → r ≡ tracked
-behind_is [] at r tracked is here = cc
-behind_is (x ∷ jobs) zero r tracked is here = here ∙ unwrap_some x tracked is
-behind_is (x ∷ jobs) (suc at) r tracked is here = behind_is jobs at r tracked is here
-
 module _ (workers : ℕ) (jobs : List TrackedTask) (worker at : ℕ) (rising : ascends jobs ≡ true) where
-  pub judged_at : (answer : Bool) (earlier rest : List TrackedTask) (r : TrackedTask) → earlier ≡ take at jobs → rest ≡ drop at jobs → r ≡ get_or rest 0 r
-      → answer ≡ (on_shard workers worker r.task && is_waiting r.outcome && not (is_blocked earlier r.task))
+  pub judged_at : (answer : Bool) (r : TrackedTask) → r ≡ get_or jobs at r → answer ≡ (on_shard workers worker r.task && is_waiting r.outcome && not (is_blocked (take at jobs) r.task))
       → (tracked : TrackedTask) → slice_get jobs at ≡ Some tracked → answer ≡ may_start workers jobs worker tracked
-  judged_at answer earlier rest r front back here says tracked is =
-      let one : r ≡ tracked = behind_is jobs at r tracked is (here ∙ ap (λ l. get_or l 0 r) back) in
-      says ∙ ap (λ (x : TrackedTask). on_shard workers worker x.task && is_waiting x.outcome && not (is_blocked earlier x.task)) one
-      ∙ ap (λ l. on_shard workers worker tracked.task && is_waiting tracked.outcome && not (is_blocked l tracked.task)) front
+  judged_at answer r here says tracked is =
+      let one : r ≡ tracked = here ∙ get_or_from_slice_get jobs at tracked r is in
+      says ∙ ap (λ (x : TrackedTask). on_shard workers worker x.task && is_waiting x.outcome && not (is_blocked (take at jobs) x.task)) one
       ∙ ap (λ b. on_shard workers worker tracked.task && is_waiting tracked.outcome && not b) (earlier_block jobs at tracked rising is)
 
 -- One place of a search.

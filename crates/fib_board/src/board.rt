@@ -16,6 +16,7 @@ use crate::pending_job::PendingJob;
 use crate::place::{ResultNode, add_result_nodes};
 use aft_store::{Store, is_used, resolves};
 use std::alloc::{AllocError, Global};
+use std::collections::VecDeque;
 use std::marker::Model;
 use table_model::{Batch, Job, JobNumber, Verdict, Work};
 
@@ -34,7 +35,7 @@ pub enum Given {
 #[derive(Drop)]
 pub struct Board {
     workers: u32,
-    jobs: Vec<PendingJob>,
+    jobs: VecDeque<PendingJob>,
     due: Vec<Row>,
     // Places for the results of jobs that may be added. The other lists have room for as many.
     spare: Vec<ResultNode>,
@@ -45,6 +46,7 @@ pub struct Board {
 
 impl Model for Board {
     ghost use Rattle.std.specs.Prelude.{◌<◌, vec_len, vec_capacity};
+    ghost use Rattle.std.specs.VecDeque.{deque_len, deque_capacity};
     ghost use Rattle.table_model.specs.BoardState.{BoardState};
     ghost use Rattle.fib_board.specs.BoardInvariant.{HasRoom};
 
@@ -58,7 +60,7 @@ impl Model for Board {
       spare = vec_len b.spare;
     } };
 
-    ghost invariant = { λ b. (0 < b.workers) × HasRoom b.jobs.items b.due.items (vec_len b.jobs) (vec_len b.spare) (vec_capacity b.jobs)
+    ghost invariant = { λ b. (0 < b.workers) × HasRoom b.jobs.items b.due.items (deque_len b.jobs) (vec_len b.spare) (deque_capacity b.jobs)
         (vec_len b.due) (vec_capacity b.due) b.fib.spare b.made };
 }
 
@@ -73,7 +75,7 @@ impl Board {
     {
         Ok(Board {
             workers,
-            jobs: Vec::new(alloc),
+            jobs: VecDeque::new(alloc),
             due: Vec::new(alloc),
             spare: Vec::new(alloc),
             fib: Store::new(alloc),

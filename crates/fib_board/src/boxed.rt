@@ -23,13 +23,20 @@ pub enum BoxedWork {
 /// A job as it is made, seen as a `NewJob`. Its entries stand in boxes of their own.
 #[derive(Drop)]
 pub struct BoxedJob {
-    pub(crate) number: JobNumber,
-    pub(crate) id: u64,
-    pub(crate) owner: Option<u64>,
-    pub(crate) wants: bool,
-    pub(crate) work: BoxedWork,
-    pub(crate) displaced: Option<Box<Entry>>,
-    pub(crate) copy: Option<Box<Entry>>,
+    /// What names it.
+    pub number: JobNumber,
+    /// The id of the operation that made it, and 0 in a purge.
+    pub id: u64,
+    /// The session of that operation, and none in a purge.
+    pub owner: Option<u64>,
+    /// Whether the owner wants its result.
+    pub wants: bool,
+    /// What a worker is given.
+    pub work: BoxedWork,
+    /// The entry that left the table for it, if one did. It has the job's key.
+    pub displaced: Option<Box<Entry>>,
+    /// What the forwarding table will hold: the installed entry once more, and none of a removal.
+    pub copy: Option<Box<Entry>>,
 }
 
 impl Model for BoxedJob {

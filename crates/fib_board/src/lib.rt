@@ -27,6 +27,6 @@ mod pending_job;
 mod place;
 
 pub use board::{Board, Given};
-pub use boxed::BoxedJob;
+pub use boxed::{BoxedJob, BoxedWork};
 pub use laws::board_follows_history;
 pub use table_model::{Batch, FibResult, Job, JobNumber, NewJob, Verdict, Work};
