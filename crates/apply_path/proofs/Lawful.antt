@@ -17,7 +17,7 @@ use Rattle.table_model.specs.declared.command.Config.{Config}
 use Rattle.table_model.specs.declared.params.AskedParams.{AskedParams}
 use Rattle.table_model.specs.Event.{Event}
 use Rattle.table_model.specs.Legal.{is_well_formed_ask, is_well_formed, IsLawful}
-use Rattle.rib_core.specs.Built.{as_served}
+use Rattle.modify_core.specs.Built.{as_served}
 use Rattle.apply_path.specs.History.{event, answered, with_events, up_to_end, status_code_of, run_commands}
 use Rattle.apply_path.specs.Responses.{config_of, fault_of, commands_unless, commands_at, run_message, history_from, history, history_with_leave, begun}
 use Rattle.apply_path.specs.Laws.{readable, commands_from, events_of}

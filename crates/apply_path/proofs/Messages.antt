@@ -12,7 +12,7 @@ use Rattle.table_model.specs.declared.command.Command.{Command}
 use Rattle.table_model.specs.declared.command.Command.TheVariants.{Begin}
 use Rattle.table_model.specs.declared.command.Config.{Config}
 use Rattle.table_model.specs.Event.{Event}
-use Rattle.rib_core.specs.Core.{Core}
+use Rattle.modify_core.specs.Core.{Core}
 use Rattle.message_run.specs.Behaviour.{Response, Appends, HandledAfter}
 use Rattle.message_run.specs.declared.message_handler.Handled.{Handled}
 use Rattle.message_run.specs.declared.message_handler.Handled.TheVariants.{Continue, Ends, Unreadable, NoMemory}

@@ -11,9 +11,9 @@ use Rattle.table_model.specs.declared.reply.Reply.TheVariants as reply
 use Rattle.table_model.specs.Event.{Event, events, is_no_memory}
 use Rattle.table_model.specs.Legal.{IsAnswer}
 use Rattle.table_model.specs.Reply.{reply_to}
-use Rattle.rib_core.specs.Core.{Core}
-use Rattle.rib_core.specs.Stands.{StandsFor, Acts}
-use Rattle.rib_core.specs.Built.{as_served}
+use Rattle.modify_core.specs.Core.{Core}
+use Rattle.modify_core.specs.Stands.{StandsFor, Acts}
+use Rattle.modify_core.specs.Built.{as_served}
 use Rattle.message_run.specs.declared.message_handler.Handled.{Handled}
 use Rattle.message_run.specs.declared.message_handler.Handled.TheVariants.{Continue, Ends, Unreadable, NoMemory}
 use Rattle.table_model.specs.Reply.{is_gone, answer}

@@ -12,7 +12,7 @@ use Rattle.table_model.specs.declared.command.Config.{Config}
 use Rattle.table_model.specs.declared.reply.Reply.{Reply}
 use Rattle.table_model.specs.Event.{Event}
 use Rattle.table_model.specs.Reply.{reply_to}
-use Rattle.rib_core.specs.Built.{as_served}
+use Rattle.modify_core.specs.Built.{as_served}
 use Rattle.call_answers.specs.Answers.{response_for}
 use Rattle.call_answers.specs.Ends.{status_by}
 

@@ -12,9 +12,9 @@ use Rattle.table_model.specs.declared.command.Config.{Config}
 use Rattle.table_model.specs.declared.params.AskedParams.{AskedParams}
 use Rattle.table_model.specs.declared.reply.Reply.{Reply}
 use Rattle.table_model.specs.Event.{Event, events, is_no_memory}
-use Rattle.rib_core.specs.Core.{Core}
-use Rattle.rib_core.specs.Built.{as_served}
-use Rattle.rib_core.specs.Stands.{StandsFor, Acts}
+use Rattle.modify_core.specs.Core.{Core}
+use Rattle.modify_core.specs.Built.{as_served}
+use Rattle.modify_core.specs.Stands.{StandsFor, Acts}
 use Rattle.message_run.specs.declared.message_handler.Handled.{Handled}
 use Rattle.message_run.specs.declared.message_handler.Handled.TheVariants.{Continue, Ends, Unreadable, NoMemory}
 use Rattle.apply_path.specs.History.{event, status_code_by, response_item, CommandRun, run_commands}

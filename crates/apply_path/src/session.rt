@@ -8,8 +8,8 @@ use crate::step::{
 };
 use call_answers::{Setting, operations_in, read_header, read_operation};
 use message_run::{Handled, MessageHandler};
+use modify_core::RibCore;
 use proto_schema::{MessageFault, MessageKind, first_fault};
-use rib_core::RibCore;
 use schema_numbers::Numbering;
 use std::alloc::{AllocError, Global};
 use std::mem::swap;

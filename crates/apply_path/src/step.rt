@@ -1,6 +1,6 @@
 ghost use Rattle.std.specs.Prelude.{◌≡◌, ◌++◌, ◌∷◌, [], List, pos, true, false, IfOk, OnOk, OnErr, IsTrue};
-ghost use Rattle.rib_core.specs.Built.{is_built};
-ghost use Rattle.rib_core.specs.Ends.{end_reply};
+ghost use Rattle.modify_core.specs.Built.{is_built};
+ghost use Rattle.modify_core.specs.Ends.{end_reply};
 ghost use Rattle.table_model.specs.Reply.{operate_reply};
 ghost use Rattle.table_model.specs.Event.{Event, is_no_memory};
 ghost use Rattle.table_model.specs.declared.command.Config.{Config};
@@ -10,7 +10,7 @@ ghost use Rattle.apply_path.specs.SessionAt.{CoreAt, AnswersReply, Replied, Runs
 use aft_entries::Reason;
 use call_answers::{append_answer, append_operation_result, end_of};
 use message_run::{Handled, append_item};
-use rib_core::{OperateEnd, RibCore};
+use modify_core::{OperateEnd, RibCore};
 use schema_numbers::Numbering;
 use std::alloc::{AllocError, Global};
 use table_model::{Command, Operation, Reply};

@@ -1,3 +1,11 @@
+pub mod Older
+pub mod Owing
+pub mod Sameness
+pub mod SessionRecords
 pub mod Replies
 pub mod Steps
-pub mod SessionRecords
+pub mod SessionSteps
+pub mod OperateSteps
+pub mod WorkerSteps
+pub mod PurgeSteps
+pub mod CoreLaws

@@ -1,4 +1,4 @@
--- What the one-thread server answers where no Halt stands.
+-- What the one-thread server answers.
 use Rattle.std.proofs.Common.{◌≡◌, ℕ, Bool, true, false, List, Some, None, refl}
 use Rattle.std.specs.Prelude.{◌&&◌}
 use Rattle.table_model.specs.declared.command.Command.{Command}
@@ -6,21 +6,23 @@ use Rattle.table_model.specs.declared.command.Config.{Config}
 use Rattle.table_model.specs.declared.reply.Reply.TheVariants as reply
 use Rattle.table_model.specs.Event.{Event}
 use Rattle.table_model.specs.Sessions.{is_live}
-use Rattle.table_model.specs.Reply.{reply_to, is_halted, caller, answer}
+use Rattle.table_model.specs.Reply.{reply_to, is_halted, is_stoppable, caller, answer}
 
-and_false : (b : Bool) → b && false ≡ false
-and_false true = refl
-and_false false = refl
-
-module _ (config : Config) (past : List Event) (command : Command) (running : is_halted past ≡ false) where
-  pub reply_gone : (session : ℕ) → caller command ≡ Some session → is_live past session ≡ false → reply_to config past command ≡ reply.Gone
+module _ (config : Config) (past : List Event) (command : Command) where
+  pub reply_stopped : (is_stoppable command && is_halted past) ≡ true → reply_to config past command ≡ reply.Stopped
   unfolding reply_to
-  reply_gone session called gone = rw (running, and_false, called, gone) refl
+  reply_stopped stops = rw stops refl
 
-  pub reply_live : (session : ℕ) → caller command ≡ Some session → is_live past session ≡ true → reply_to config past command ≡ answer config past command
-  unfolding reply_to
-  reply_live session called alive = rw (running, and_false, called, alive) refl
+  -- where no Halt stops it
+  module _ (goes : (is_stoppable command && is_halted past) ≡ false) where
+    pub reply_gone : (session : ℕ) → caller command ≡ Some session → is_live past session ≡ false → reply_to config past command ≡ reply.Gone
+    unfolding reply_to
+    reply_gone session called gone = rw (goes, called, gone) refl
 
-  pub reply_free : caller command ≡ None → reply_to config past command ≡ answer config past command
-  unfolding reply_to
-  reply_free called = rw (running, and_false, called) refl
+    pub reply_live : (session : ℕ) → caller command ≡ Some session → is_live past session ≡ true → reply_to config past command ≡ answer config past command
+    unfolding reply_to
+    reply_live session called alive = rw (goes, called, alive) refl
+
+    pub reply_free : caller command ≡ None → reply_to config past command ≡ answer config past command
+    unfolding reply_to
+    reply_free called = rw (goes, called) refl

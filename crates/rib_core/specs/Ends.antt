@@ -2,7 +2,7 @@
 use Rattle.election.specs.declared.AnnounceEnd.{AnnounceEnd}
 use Rattle.election.specs.declared.AnnounceEnd.TheVariants.{Announced, ZeroId}
 use Rattle.rib_core.specs.declared.machine.OperateEnd.{OperateEnd}
-use Rattle.rib_core.specs.declared.machine.OperateEnd.TheVariants.{Gone, NoParams, Failed, Done, NoMemory}
+use Rattle.rib_core.specs.declared.machine.OperateEnd.TheVariants.{Stopped, Gone, NoParams, Failed, Done, NoMemory}
 use Rattle.table_model.specs.declared.reply.Reply.{Reply}
 use Rattle.table_model.specs.declared.reply.Reply.TheVariants as reply
 
@@ -11,6 +11,7 @@ announce_reply (Announced highest) = reply.Announced highest
 announce_reply ZeroId = reply.ZeroId
 
 abbrev pub end_reply : OperateEnd → Reply
+end_reply Stopped = reply.Stopped
 end_reply Gone = reply.Gone
 end_reply NoParams = reply.NoParams
 end_reply (Failed reason) = reply.RibFailed reason

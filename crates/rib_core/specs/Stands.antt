@@ -1,7 +1,8 @@
 -- The history that a core stands for: each part that it keeps is that of the history, which is lawful.
-use Rattle.std.specs.Prelude.{◌≡◌, false, List, ◌∷◌, length}
+use Rattle.std.specs.Prelude.{◌≡◌, List, ◌∷◌, length}
 use Rattle.table_model.specs.declared.command.Command.{Command}
 use Rattle.table_model.specs.declared.reply.Reply.{Reply}
+use Rattle.table_model.specs.BoardState as board
 use Rattle.table_model.specs.Event.{Event, events}
 use Rattle.table_model.specs.Legal.{Legal}
 use Rattle.table_model.specs.Rib.{rib}
@@ -16,7 +17,9 @@ pub record Keeps (core : Core) (past : List Event) : Type 0 where
   pub table : core.table.entries ≡ rib past
   pub election_state : election.StandsFor core.election_state past
   pub session_records : sessions.StandsFor core.session_records past
-  pub running : is_halted past ≡ false
+  pub workers : core.board.workers ≡ core.config.workers
+  pub board : board.StandsFor core.board past
+  pub halted : core.halted ≡ is_halted past
 
 pub record StandsFor (core : Core) (recorded : List Event) : Type 0 where
   pub legal : Legal core.config recorded

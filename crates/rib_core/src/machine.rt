@@ -1,47 +1,52 @@
-ghost use Rattle.std.specs.Prelude.{◌≡◌, ◌≢◌, if◌then◌else◌, true, ◌+◌, ◌<◌, ◌≤◌, ◌^◌, List, [], length, IfOk, IsTrue, OnOk, OnErr, Some, option_map};
-ghost use Rattle.aft_entries.specs.Shapes.{fits};
+//! The core: what it keeps, and its one call.
+ghost use Rattle.std.specs.Prelude.{◌≡◌, ◌&&◌, ◌+◌, ◌<◌, ◌≤◌, ◌^◌, List, [], true, false, length, IfOk, IsTrue};
 ghost use Rattle.table_model.specs.Event.{Event, events};
-ghost use Rattle.table_model.specs.Legal.{is_well_formed_ask};
-ghost use Rattle.rib_core.specs.Stands.{StandsFor, Acts};
-ghost use Rattle.rib_core.specs.Built.{is_built, is_in_range, as_served, served_ack, served_params};
-ghost use Rattle.rib_core.specs.Decisions.{purges_in, refuse_in, verdict_in, Accepts};
-ghost use Rattle.rib_core.specs.Decisions as decisions;
-ghost use Rattle.table_model.specs.Election as election;
+ghost use Rattle.table_model.specs.Jobs as jobs;
+ghost use Rattle.table_model.specs.Legal.{takes_memory};
+ghost use Rattle.table_model.specs.Reply as answers;
 ghost use Rattle.table_model.specs.Rib as rib;
-ghost use Rattle.rib_core.specs.Ends.{announce_reply, end_reply};
-ghost use Rattle.session_params.specs.Book.{set_reply};
+ghost use Rattle.table_model.specs.Sessions as sessions;
+ghost use Rattle.rib_core.specs.Core.{without_spare};
+ghost use Rattle.rib_core.specs.Stands.{StandsFor, Acts};
+ghost use Rattle.rib_core.specs.Ranges.{is_in_range};
+ghost use Rattle.session_params.specs.Rows.{is_entered};
 
-use aft_entries::{Ask, Entry, Reason};
+use crate::operations::{reply_to_operate, well_formed_by_type};
+use crate::tables::Tables;
+use aft_entries::Reason;
 use aft_store::Store;
-use election::{AnnounceEnd, Election};
-use rib_ops::{judge, perform};
-use session_params::{ParamBook, SetEnd};
+use election::Election;
+use session_params::ParamBook;
 use std::alloc::{AllocError, Global};
 use std::marker::Model;
-use table_model::{AckType, AskedParams, Command, Config, Operation, Persistence, Reply};
+use table_model::{Command, Config, Reply};
 
 /// How an operation ended.
 #[derive(Clone, Copy, Debug, PartialEq, Eq)]
 pub enum OperateEnd {
+    /// A Halt stands.
+    Stopped,
     /// The session isn't live.
     Gone,
     /// The session has no accepted parameters.
     NoParams,
+    /// Why the operation isn't done.
     Failed(Reason),
+    /// The operation is done in the table.
     Done,
     /// Memory ran out, and nothing changed.
     NoMemory,
 }
 
-/// The table of a gRIBI server: its sessions, its election and its entries, behind one call. It is seen by the
-/// histories of commands and replies that it may stand for.
+/// The table of a gRIBI server: its sessions, its election, its entries and the jobs that bring them into the forwarding
+/// table, behind one call. It is seen by the histories of commands and replies that it may stand for.
 #[derive(Drop)]
 pub struct RibCore {
-    config: Config,
-    table: Store,
-    election: Election,
-    sessions: ParamBook,
-    events: u64,
+    pub(crate) config: Config,
+    pub(crate) tables: Tables,
+    pub(crate) election: Election,
+    pub(crate) sessions: ParamBook,
+    pub(crate) halted: bool,
 }
 
 impl Model for RibCore {
@@ -49,7 +54,15 @@ impl Model for RibCore {
 
     ghost Value = { Core };
 
-    ghost view = { λ c. record { config = c.config; table = c.table; election_state = c.election; session_records = c.sessions; count = c.events } };
+    ghost view = { λ c. record {
+      config = c.config;
+      table = c.tables.table;
+      election_state = c.election;
+      session_records = c.sessions;
+      count = c.tables.count;
+      board = c.tables.board;
+      halted = c.halted;
+    } };
 }
 
 impl RibCore {
@@ -61,12 +74,13 @@ impl RibCore {
         ensures stands { IfOk result (λ core. StandsFor core []) }
         ensures count { IfOk result (λ core. core.count ≡ 0) }
     {
+        let tables = Tables::new(alloc, config.workers)?;
         Ok(RibCore {
             config,
-            table: Store::new(alloc),
+            tables,
             election: Election::new(),
             sessions: ParamBook::new(alloc),
-            events: 0,
+            halted: false,
         })
     }
 
@@ -75,7 +89,23 @@ impl RibCore {
         ensures kept { result ≡ length self.now.table.entries }
         ensures stands { (recorded : List Event) → StandsFor self.now recorded → result ≡ length (rib.rib (events recorded)) }
     {
-        self.table.len()
+        self.tables.table().len()
+    }
+
+    /// How many entries the forwarding table has.
+    pub fn installed(&self) -> u64
+        ensures kept { result ≡ length self.now.board.fib }
+        ensures stands { (recorded : List Event) → StandsFor self.now recorded → result ≡ length (jobs.fib (events recorded)) }
+    {
+        self.tables.fib().len()
+    }
+
+    /// The forwarding table: what the programmed jobs leave.
+    pub fn fib(&self) -> &Store
+        ensures kept { result.now.entries ≡ self.now.board.fib }
+        ensures stands { (recorded : List Event) → StandsFor self.now recorded → result.now.entries ≡ jobs.fib (events recorded) }
+    {
+        self.tables.fib()
     }
 
     /// How many events there were: commands whose answer wasn't `NoMemory`.
@@ -83,305 +113,105 @@ impl RibCore {
         ensures kept { result ≡ self.now.count }
         ensures stands { (recorded : List Event) → StandsFor self.now recorded → result ≡ length (events recorded) }
     {
-        self.events
+        self.tables.count()
+    }
+
+    /// Whether a Halt stands.
+    pub fn is_halted(&self) -> bool
+        ensures kept { result ≡ self.now.halted }
+        ensures stands { (recorded : List Event) → StandsFor self.now recorded → result ≡ answers.is_halted (events recorded) }
+    {
+        self.halted
+    }
+
+    /// Whether the session was begun and hasn't left.
+    pub fn is_live(&self, session: u64) -> bool
+        ensures kept { result ≡ is_entered session self.now.session_records }
+        ensures stands { (recorded : List Event) → StandsFor self.now recorded → result ≡ sessions.is_live (events recorded) session }
+    {
+        self.sessions.is_entered(session)
     }
 
     /// Answers a command. Whatever history the core stood for, it then stands for that history with the command and
-    /// its reply, so that the reply is the one-thread server's. `Begin` and `Operate` alone may be answered
-    /// `NoMemory`, and then nothing changed.
-    ///
-    /// Results of the forwarding table aren't served: parameters that ask for them are unsupported.
+    /// its reply, so that the reply is the one-thread server's. `Begin`, `Operate` and `Select` alone may be answered
+    /// `NoMemory`; then nothing changed, but that more places may be spare.
     pub fn act(&mut self, command: Command) -> Reply
-        requires built { IsTrue (is_built command) }
         requires room { self.old.count < 2 ^ 62 }
-        ensures stands { Acts self.old (as_served command) result self.new }
+        ensures stands { Acts self.old command result self.new }
         ensures config { self.new.config ≡ self.old.config }
-        ensures refused { result ≡ Reply.NoMemory → self.new ≡ self.old }
+        ensures refused { result ≡ Reply.NoMemory → without_spare self.new ≡ without_spare self.old }
+        ensures alone { result ≡ Reply.NoMemory → takes_memory command ≡ true }
+        ensures count { self.new.count ≤ self.old.count + 1 }
+    {
+        let stops = self.halted && is_stoppable(&command);
+        if stops {
+            return self.stop(command);
+        }
+        self.go(command)
+    }
+
+    // Answers a command that no Halt stops.
+    fn go(&mut self, command: Command) -> Reply
+        requires room { self.old.count < 2 ^ 62 }
+        requires goes { (self.old.halted && answers.is_stoppable command) ≡ false }
+        ensures stands { Acts self.old command result self.new }
+        ensures config { self.new.config ≡ self.old.config }
+        ensures refused { result ≡ Reply.NoMemory → without_spare self.new ≡ without_spare self.old }
+        ensures alone { result ≡ Reply.NoMemory → takes_memory command ≡ true }
         ensures count { self.new.count ≤ self.old.count + 1 }
     {
         match command {
             Command::Begin => self.begin(),
-            Command::SetParams(session, asked) => self.set_params(session, served(asked)),
+            Command::SetParams(session, asked) => self.set_params(session, asked),
             Command::Announce(session, id) => self.announce(session, id),
             Command::Operate(session, operation, now) => {
                 reply_to_operate(self.operate(session, operation, now))
             }
+            Command::Collect(session) => self.collect(session),
             Command::Leave(session) => self.leave(session),
-            _ => unreachable!(),
+            Command::Flush(by, which, now) => self.flush(by, which, now),
+            Command::Select(which, kinds) => self.select(which, kinds),
+            Command::Take(worker, now) => self.take(worker, now),
+            Command::Report(job, verdict, now) => self.report(job, verdict, now),
+            Command::Halt => self.halt(),
         }
     }
 
-    fn begin(&mut self) -> Reply
-        requires { self.old.count < 2 ^ 62 }
-        ensures stands { Acts self.old Command.Begin result self.new }
+    // A command that a Halt stops.
+    fn stop(&mut self, command: Command) -> Reply
+        requires room { self.old.count < 2 ^ 62 }
+        requires stops { (self.old.halted && answers.is_stoppable command) ≡ true }
+        ensures stands { Acts self.old command result self.new }
         ensures config { self.new.config ≡ self.old.config }
-        ensures refused { result ≡ Reply.NoMemory → self.new ≡ self.old }
-        ensures count { self.new.count ≤ self.old.count + 1 }
+        ensures never { result ≡ Reply.Stopped }
+        ensures count { self.new.count ≡ self.old.count + 1 }
     {
-        let session = self.events;
-        match self.sessions.enter(session) {
-            Err(_) => Reply::NoMemory,
-            Ok(()) => {
-                self.events += 1;
-                Reply::Began(session)
-            }
-        }
-    }
-
-    fn set_params(&mut self, session: u64, asked: AskedParams) -> Reply
-        requires { self.old.count < 2 ^ 62 }
-        ensures stands { Acts self.old (Command.SetParams session asked) result self.new }
-        ensures config { self.new.config ≡ self.old.config }
-        ensures never { result ≢ Reply.NoMemory }
-        ensures count { self.new.count ≤ self.old.count + 1 }
-    {
-        self.events += 1;
-        if !self.sessions.is_entered(session) {
-            return Reply::Gone;
-        }
-        reply_to_set(self.sessions.set(session, asked))
-    }
-
-    fn announce(&mut self, session: u64, id: u128) -> Reply
-        requires { self.old.count < 2 ^ 62 }
-        ensures stands { Acts self.old (Command.Announce session id) result self.new }
-        ensures config { self.new.config ≡ self.old.config }
-        ensures never { result ≢ Reply.NoMemory }
-        ensures count { self.new.count ≤ self.old.count + 1 }
-    {
-        self.events += 1;
-        if !self.sessions.is_entered(session) {
-            return Reply::Gone;
-        }
-        let params = self.sessions.params_of(session);
-        if params.is_none() {
-            return Reply::NoParams;
-        }
-        reply_to_announce(self.election.announce(session, id))
-    }
-
-    /// Answers an operation as `act` does, without the room that other replies take.
-    pub fn operate(&mut self, session: u64, operation: Operation, now: i64) -> OperateEnd
-        requires { self.old.count < 2 ^ 62 }
-        ensures stands { Acts self.old (Command.Operate session operation now) (end_reply result) self.new }
-        ensures config { self.new.config ≡ self.old.config }
-        ensures refused { result ≡ OperateEnd.NoMemory → self.new ≡ self.old }
-        ensures count { self.new.count ≤ self.old.count + 1 }
-    {
-        let _ = now;
-        well_formed_by_type(&operation.ask);
-        match self.refuse(session, &operation) {
-            Some(end) => {
-                discard(operation);
-                self.events += 1;
-                end
-            }
-            None => match self.accept(operation) {
-                Ok(()) => OperateEnd::Done,
-                Err(_) => OperateEnd::NoMemory,
-            },
-        }
-    }
-
-    // How an operation ends that isn't done.
-    fn refuse(&self, session: u64, operation: &Operation) -> Option<OperateEnd>
-        ensures reply { option_map end_reply result ≡ refuse_in self.now session operation.now }
-        ensures never { result ≢ Some OperateEnd.NoMemory }
-    {
-        match self.sessions.session_record(session) {
-            None => Some(OperateEnd::Gone),
-            Some(session_record) => {
-                if session_record.params.is_none() {
-                    return Some(OperateEnd::NoParams);
-                }
-                failed(self.verdict(session, operation))
-            }
-        }
-    }
-
-    // Does the operation, once there is room for an entry.
-    fn accept(&mut self, operation: Operation) -> Result<(), AllocError>
-        requires { self.old.count < 2 ^ 62 }
-        ensures ok { OnOk result (Accepts self.old operation.ask self.new) }
-        ensures err { OnErr result (self.new ≡ self.old) }
-    {
-        if let Err(refused) = self.table.reserve(1) {
-            discard(operation);
-            return Err(refused);
-        }
-        let Operation {
-            id: _,
-            election: _,
-            ask,
-        } = operation;
-        let displaced = perform(&mut self.table, ask);
-        discard_entry(displaced);
-        self.events += 1;
-        Ok(())
-    }
-
-    // Why the operation fails, if it does.
-    fn verdict(&self, session: u64, operation: &Operation) -> Option<Reason>
-        ensures { result ≡ verdict_in self.now session operation.now }
-    {
-        if !is_it(self.election.primary(), session) {
-            return Some(Reason::NotPrimary);
-        }
-        if !is_same_id(operation.election, self.election.highest()) {
-            return Some(Reason::ElectionIdDiffers);
-        }
-        judge(
-            &self.table,
-            self.config.instances,
-            self.config.limit,
-            &operation.ask,
-        )
-    }
-
-    fn leave(&mut self, session: u64) -> Reply
-        requires { self.old.count < 2 ^ 62 }
-        ensures stands { Acts self.old (Command.Leave session) result self.new }
-        ensures config { self.new.config ≡ self.old.config }
-        ensures never { result ≢ Reply.NoMemory }
-        ensures count { self.new.count ≤ self.old.count + 1 }
-    {
-        self.events += 1;
-        if !self.sessions.is_entered(session) {
-            return Reply::Gone;
-        }
-        let purges = self.purges(session);
-        clear_if(&mut self.table, purges);
-        self.election.leave(session);
-        self.sessions.leave(session);
-        Reply::Left
-    }
-
-    // Whether the session is the primary, and the whole table goes with it.
-    fn purges(&self, session: u64) -> bool
-        ensures { result ≡ purges_in self.now session }
-    {
-        let primary = is_it(self.election.primary(), session);
-        let deletes = match self.sessions.params_of(session) {
-            None => false,
-            Some(params) => params.persistence == Persistence::Delete,
-        };
-        primary && deletes
+        well_formed_by_type(&command);
+        discard(command);
+        self.tables.advance();
+        Reply::Stopped
     }
 }
 
-// The asked parameters as this core reads them.
-fn served(asked: AskedParams) -> AskedParams
-    ensures { result ≡ served_params asked }
+// The commands that a Halt stops.
+fn is_stoppable(command: &Command) -> bool
+    ensures { result ≡ answers.is_stoppable command.now }
 {
-    AskedParams {
-        redundancy: asked.redundancy,
-        persistence: asked.persistence,
-        ack: served_type(asked.ack),
+    match command {
+        Command::Begin => true,
+        Command::SetParams(_, _) => true,
+        Command::Announce(_, _) => true,
+        Command::Operate(_, _, _) => true,
+        Command::Collect(_) => true,
+        Command::Leave(_) => false,
+        Command::Flush(_, _, _) => true,
+        Command::Select(_, _) => true,
+        Command::Take(_, _) => false,
+        Command::Report(_, _, _) => false,
+        Command::Halt => false,
     }
 }
 
-fn served_type(ack: Option<AckType>) -> Option<AckType>
-    ensures { result ≡ served_ack ack }
-{
-    match ack {
-        Some(AckType::Rib) => ack,
-        Some(AckType::RibAndFib) => None,
-        None => None,
-    }
-}
-
-// An entry that is put has a payload of its key's kind. This and the next read what the entry's type keeps, for
-// the proof.
-fn well_formed_by_type(ask: &Ask)
-    ensures { is_well_formed_ask ask.now ≡ true }
-{
-    match ask {
-        Ask::Put(entry, _) => payload_fits_by_type(entry),
-        Ask::Remove(_) => {}
-        Ask::Bad(_) => {}
-    }
-}
-
-fn payload_fits_by_type(entry: &Entry)
-    ensures { fits entry.now.key.name entry.now.payload ≡ true }
-{
-    let _key = entry.key;
-}
-
-fn reply_to_set(end: SetEnd) -> Reply
-    ensures { result ≡ set_reply end }
-{
-    match end {
-        SetEnd::Set => Reply::ParamsSet,
-        SetEnd::Unsupported => Reply::ParamsUnsupported,
-        SetEnd::NotAllowed => Reply::ParamsNotAllowed,
-        SetEnd::Differs(other) => Reply::ParamsDiffer(other),
-    }
-}
-
-fn reply_to_operate(end: OperateEnd) -> Reply
-    ensures { result ≡ end_reply end }
-{
-    match end {
-        OperateEnd::Gone => Reply::Gone,
-        OperateEnd::NoParams => Reply::NoParams,
-        OperateEnd::Failed(reason) => Reply::RibFailed(reason),
-        OperateEnd::Done => Reply::RibDone,
-        OperateEnd::NoMemory => Reply::NoMemory,
-    }
-}
-
-fn reply_to_announce(end: AnnounceEnd) -> Reply
-    ensures { result ≡ announce_reply end }
-{
-    match end {
-        AnnounceEnd::Announced(highest) => Reply::Announced(highest),
-        AnnounceEnd::ZeroId => Reply::ZeroId,
-    }
-}
-
-// Removes all entries, where that is asked.
-fn clear_if(table: &mut Store, asked: bool)
-    ensures { table.new.entries ≡ (if asked then [] else table.old.entries) }
-{
-    if asked {
-        table.clear();
-    }
-}
-
-fn is_it(holder: Option<u64>, session: u64) -> bool
-    ensures { result ≡ election.is_it holder session }
-{
-    match holder {
-        None => false,
-        Some(other) => other == session,
-    }
-}
-
-fn is_same_id(given: Option<u128>, highest: u128) -> bool
-    ensures { result ≡ rib.is_same_id given highest }
-{
-    match given {
-        None => false,
-        Some(id) => id == highest,
-    }
-}
-
-fn failed(reason: Option<Reason>) -> Option<OperateEnd>
-    ensures reply { option_map end_reply result ≡ decisions.failed reason }
-    ensures never { result ≢ Some OperateEnd.NoMemory }
-{
-    match reason {
-        Some(reason) => Some(OperateEnd::Failed(reason)),
-        None => None,
-    }
-}
-
-// Lets an operation go.
-fn discard(operation: Operation) {
-    let _ = operation;
-}
-
-fn discard_entry(entry: Option<Entry>) {
-    let _ = entry;
+fn discard(command: Command) {
+    let _ = command;
 }

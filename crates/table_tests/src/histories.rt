@@ -1,6 +1,3 @@
-ghost use Rattle.std.specs.Prelude.{◌≡◌};
-ghost use Rattle.rib_core.specs.Built.{is_built};
-
 use crate::replies::{ReplySummary, summary_of};
 use crate::steps::Item::{Group, Hop, Net, Net6};
 use crate::steps::TestCommand::{
@@ -15,32 +12,13 @@ use table_model::AckType::{Rib, RibAndFib};
 use table_model::Persistence::{Delete as Gone, Preserve};
 use table_model::{Command, Config, Params};
 
-// Whether the core takes the command.
-fn is_taken(command: &Command) -> bool
-    ensures { result ≡ is_built command.now }
-{
-    match command {
-        Command::Begin => true,
-        Command::SetParams(_, _) => true,
-        Command::Announce(_, _) => true,
-        Command::Operate(_, _, _) => true,
-        Command::Leave(_) => true,
-        Command::Collect(_) => false,
-        Command::Flush(_, _, _) => false,
-        Command::Select(_, _) => false,
-        Command::Take(_, _) => false,
-        Command::Report(_, _, _) => false,
-        Command::Halt => false,
-    }
-}
-
 fn discard(command: Command) -> ReplySummary {
     let _ = command;
     ReplySummary::NoMemory
 }
 
-fn answer(core: &mut RibCore, command: Command) -> ReplySummary {
-    if core.events() < 1000 && is_taken(&command) {
+pub fn answer(core: &mut RibCore, command: Command) -> ReplySummary {
+    if core.events() < 1000 {
         summary_of(&core.act(command))
     } else {
         discard(command)
@@ -63,12 +41,12 @@ fn as_expected(
     Ok(same)
 }
 
-// How many replies of a core with a limit are those that are told, and how many entries it has then.
-fn played(
+// How many replies of a core with a limit are those that are told, and how many entries and installed ones it has then.
+pub fn played(
     alloc: Global,
     limit: u64,
     steps: &[(TestCommand, ReplySummary)],
-) -> Result<(usize, u64), AllocError> {
+) -> Result<(usize, u64, u64), AllocError> {
     let config = Config {
         instances: 2,
         workers: 1,
@@ -76,7 +54,7 @@ fn played(
     };
     let mut core = RibCore::new(alloc, config)?;
     let same = as_expected(alloc, &mut core, steps)?;
-    Ok((same, core.entries()))
+    Ok((same, core.entries(), core.installed()))
 }
 
 // An equal id wins for the session that came last.
@@ -191,7 +169,7 @@ const FULL: &[(TestCommand, ReplySummary)] = &[
 
 const SET: Params = Params {
     persistence: Preserve,
-    ack: Rib,
+    ack: RibAndFib,
 };
 
 // Parameters and what goes before them.
@@ -200,11 +178,10 @@ const PARAMETERS: &[(TestCommand, ReplySummary)] = &[
     (AllPrimary(0), ReplySummary::Unsupported),
     (Announce(0, 1), ReplySummary::NoParams),
     (Add(0, 1, Hop(1)), ReplySummary::NoParams),
-    (Ask(0, Preserve, RibAndFib), ReplySummary::Unsupported),
-    (Ask(0, Preserve, Rib), ReplySummary::Set),
+    (Ask(0, Preserve, RibAndFib), ReplySummary::Set),
     (Ask(0, Preserve, Rib), ReplySummary::NotAllowed),
-    (Begin, ReplySummary::Began(7)),
-    (Ask(7, Gone, Rib), ReplySummary::Differ(SET)),
+    (Begin, ReplySummary::Began(6)),
+    (Ask(6, Preserve, Rib), ReplySummary::Differ(SET)),
     (Ask(5, Gone, Rib), ReplySummary::Gone),
 ];
 
@@ -239,7 +216,10 @@ const HISTORIES: &[(u64, &[(TestCommand, ReplySummary)], u64)] = &[
 #[test]
 fn histories_are_answered(rt: HostRuntime) -> Result<(), Fail> {
     for (limit, steps, entries) in HISTORIES {
-        assert_eq!(rt; played(rt.alloc(), *limit, steps)?, (steps.len(), *entries));
+        assert_eq!(rt;
+            played(rt.alloc(), *limit, steps)?,
+            (steps.len(), *entries, 0)
+        );
     }
     Ok(())
 }

@@ -8,9 +8,13 @@ mod batches;
 #[cfg(test)]
 mod board_jobs;
 #[cfg(test)]
+mod fib_histories;
+#[cfg(test)]
 mod flushes;
 #[cfg(test)]
 mod histories;
+#[cfg(test)]
+mod job_orders;
 #[cfg(test)]
 mod operations;
 #[cfg(test)]

@@ -1,8 +1,8 @@
 use Rattle.std.proofs.Common.{true, false, ap, ◌∙◌}
 use Rattle.std.specs.Prelude.{not}
-use Rattle.rib_core.specs.Decisions.{failed}
-use Rattle.rib_core.proofs.SessionRecords.{refuse_without, refuse_with}
-use Rattle.rib_core.proofs.machine.RibCore.refuse.Goals as goal
+use Rattle.modify_core.specs.Decisions.{failed}
+use Rattle.modify_core.proofs.SessionRecords.{refuse_without, refuse_with}
+use Rattle.modify_core.proofs.machine.RibCore.refuse.Goals as goal
 
 pub returns-in-None-clause-reply : goal.returns-in-None-clause-reply
 returns-in-None-clause-reply c = refuse_without c.args.self.now c.args.session c.args.operation.now _ (ap (λ k. k.session_records) c.self.view_is) c.in-None.ensures.found

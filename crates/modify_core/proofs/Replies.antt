@@ -1,0 +1,26 @@
+-- What the one-thread server answers where no Halt stands.
+use Rattle.std.proofs.Common.{◌≡◌, ℕ, Bool, true, false, List, Some, None, refl}
+use Rattle.std.specs.Prelude.{◌&&◌}
+use Rattle.table_model.specs.declared.command.Command.{Command}
+use Rattle.table_model.specs.declared.command.Config.{Config}
+use Rattle.table_model.specs.declared.reply.Reply.TheVariants as reply
+use Rattle.table_model.specs.Event.{Event}
+use Rattle.table_model.specs.Sessions.{is_live}
+use Rattle.table_model.specs.Reply.{reply_to, is_halted, caller, answer}
+
+and_false : (b : Bool) → b && false ≡ false
+and_false true = refl
+and_false false = refl
+
+module _ (config : Config) (past : List Event) (command : Command) (running : is_halted past ≡ false) where
+  pub reply_gone : (session : ℕ) → caller command ≡ Some session → is_live past session ≡ false → reply_to config past command ≡ reply.Gone
+  unfolding reply_to
+  reply_gone session called gone = rw (running, and_false, called, gone) refl
+
+  pub reply_live : (session : ℕ) → caller command ≡ Some session → is_live past session ≡ true → reply_to config past command ≡ answer config past command
+  unfolding reply_to
+  reply_live session called alive = rw (running, and_false, called, alive) refl
+
+  pub reply_free : caller command ≡ None → reply_to config past command ≡ answer config past command
+  unfolding reply_to
+  reply_free called = rw (running, and_false, called) refl
