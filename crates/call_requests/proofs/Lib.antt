@@ -1,0 +1,4 @@
+pub mod Texts
+pub mod Bounds
+pub mod Known
+pub mod Cutting
