@@ -1,0 +1,15 @@
+pub mod Counts
+pub mod Doing
+pub mod Open
+pub mod Idle
+pub mod Holding
+pub mod Standing
+pub mod Following
+pub mod Ordered
+pub mod Owning
+pub mod Leaving
+pub mod Closing
+pub mod Answering
+pub mod Answered
+pub mod Single
+pub mod Cuts
