@@ -12,7 +12,7 @@ use Rattle.h2_exchange.specs.Frames.{stream_of, is_headers, has_end_headers}
 use Rattle.h2_exchange.specs.Rules.{breaks_block_on}
 use Rattle.h2_exchange.specs.Streams.{is_odd, begins, is_begun, has_head}
 use Rattle.h2_exchange.proofs.Steps.{header_blocks_grow, sent_push, sent_received}
-use Rattle.h2_conn.specs.ConnectionTrace.{ArePlaced}
+use Rattle.http_connection.specs.ConnectionTrace.{ArePlaced}
 
 abbrev place_of : Option Block → Option ℕ
 place_of o = option_map (λ b. b.stream) o

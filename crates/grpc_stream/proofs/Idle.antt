@@ -6,12 +6,12 @@ use Rattle.h2_exchange.specs.declared.role.Role.{Role}
 use Rattle.h2_exchange.specs.declared.role.Role.TheVariants.{Client, Server}
 use Rattle.h2_exchange.specs.Exchange.{Step, Sent}
 use Rattle.h2_exchange.specs.Streams.{begun, live, is_live, is_open}
-use Rattle.h2_conn.specs.declared.preface_only.PrefaceOnly.{PrefaceOnly}
-use Rattle.h2_conn.specs.ConnectionTrace.{ConnectionTrace, is_alive, wrote}
-use Rattle.h2_conn.specs.PrefaceTrace as preface_trace
-use Rattle.h2_conn.proofs.Greeted.{frames, none_live, none_is_open}
-use Rattle.h2_conn.proofs.Opened.{holds}
-use Rattle.h2_conn.proofs.Sound.{sound}
+use Rattle.http_connection.specs.declared.preface_only.PrefaceOnly.{PrefaceOnly}
+use Rattle.http_connection.specs.ConnectionTrace.{ConnectionTrace, is_alive, wrote}
+use Rattle.http_connection.specs.PrefaceTrace as preface_trace
+use Rattle.http_connection.proofs.Greeted.{frames, none_live, none_is_open}
+use Rattle.http_connection.proofs.Opened.{holds}
+use Rattle.http_connection.proofs.Sound.{sound}
 use Rattle.grpc_stream.specs.Sends as send
 use Rattle.grpc_stream.specs.CallTrace.{CallTrace, changed, is_ended, is_taking, unsent_on, waiting_in}
 

@@ -3,13 +3,13 @@ use Rattle.std.proofs.Common.{◌≡◌, ◌<◌, Bool, arith, true, false, [], 
 use Rattle.h2_exchange.specs.declared.role.Role.{Role}
 use Rattle.h2_exchange.specs.declared.role.Role.TheVariants.{Client, Server}
 use Rattle.h2_exchange.specs.Stops.{Stop, events}
-use Rattle.h2_conn.specs.declared.preface_only.PrefaceOnly.{PrefaceOnly}
-use Rattle.h2_conn.specs.declared.event.H2Event.{H2Event}
-use Rattle.h2_conn.specs.declared.event.H2Event.TheVariants as event
-use Rattle.h2_conn.specs.Answers as conn
-use Rattle.h2_conn.specs.ConnectionTrace.{ConnectionTrace, Refusal, Stopped, NoMemory, events_in}
-use Rattle.h2_conn.specs.PrefaceTrace as preface_trace
-use Rattle.h2_conn.proofs.Unheard.{no_events}
+use Rattle.http_connection.specs.declared.preface_only.PrefaceOnly.{PrefaceOnly}
+use Rattle.http_connection.specs.declared.event.H2Event.{H2Event}
+use Rattle.http_connection.specs.declared.event.H2Event.TheVariants as event
+use Rattle.http_connection.specs.Answers as conn
+use Rattle.http_connection.specs.ConnectionTrace.{ConnectionTrace, Refusal, Stopped, NoMemory, events_in}
+use Rattle.http_connection.specs.PrefaceTrace as preface_trace
+use Rattle.http_connection.proofs.Unheard.{no_events}
 use Rattle.grpc_stream.specs.NextEvent as say
 use Rattle.grpc_stream.specs.Shown.{shown_of}
 use Rattle.grpc_stream.specs.CallTrace.{CallTrace, reported_in, reported_by}

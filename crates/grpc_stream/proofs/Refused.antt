@@ -23,9 +23,9 @@ use Rattle.h2_exchange.specs.Streams.{is_begun}
 use Rattle.h2_exchange.proofs.Looking.{collect_push}
 use Rattle.h2_exchange.proofs.Staying.{events_go_on}
 use Rattle.h2_exchange.proofs.Steps.{received_sent}
-use Rattle.h2_conn.specs.Answers.{GivesEvents, Receives, after, code_of}
-use Rattle.h2_conn.specs.ConnectionTrace.{ConnectionTrace, IsSound, NoMemory, Refusal, stop_in}
-use Rattle.h2_conn.specs.Laws.{EventsSend, RefusalsSend, SendsIn}
+use Rattle.http_connection.specs.Answers.{GivesEvents, Receives, after, code_of}
+use Rattle.http_connection.specs.ConnectionTrace.{ConnectionTrace, IsSound, NoMemory, Refusal, stop_in}
+use Rattle.http_connection.specs.Laws.{EventsSend, RefusalsSend, SendsIn}
 use Rattle.grpc_stream.specs.Laws.{OutOfMemorySends}
 use Rattle.grpc_stream.proofs.Kept.{sending_is_kept}
 use Rattle.grpc_stream.proofs.Replied.{Owes, all_answered, nothing}

@@ -29,8 +29,8 @@ use Rattle.h2_exchange.specs.Windows.{granted_on, spent_on, spent}
 use Rattle.h2_exchange.proofs.Looking.{or_nothing}
 use Rattle.h2_exchange.proofs.Sending.{only_these_are_sent}
 use Rattle.h2_exchange.proofs.Steps.{begun_push, over_stays, received_more, received_push, received_sent, sent_more, sent_push, sent_received, header_blocks_grow, window_sums_grow}
-use Rattle.h2_conn.specs.ConnectionTrace.{ArePlaced}
-use Rattle.h2_conn.specs.Answers.{AreReplyBy, Receives, credit_for, text_or_none, ends, goes, stops}
+use Rattle.http_connection.specs.ConnectionTrace.{ArePlaced}
+use Rattle.http_connection.specs.Answers.{AreReplyBy, Receives, credit_for, text_or_none, ends, goes, stops}
 use Rattle.grpc_stream.proofs.Granted.{same_frames, one_frame, body, update, zero_small, begun_number, live_number, both_of, granted_by, ungranted}
 
 -- ---- acknowledgements

@@ -16,10 +16,10 @@ use Rattle.h2_exchange.specs.Order.{AreFrames, RestBreaks, peer_preface}
 use Rattle.h2_exchange.specs.Stops.{Stop, Error, Calm, IsBroken}
 use Rattle.h2_exchange.specs.Sending.{reset_text}
 use Rattle.h2_exchange.proofs.Sending.{only_these_are_sent}
-use Rattle.h2_conn.specs.ConnectionTrace.{ArePlaced, ConnectionTrace, stop_in, wrote}
-use Rattle.h2_conn.specs.Answers.{IsCause, code_of}
-use Rattle.h2_conn.specs.Laws.{SendsIn}
-use Rattle.h2_conn.specs.Sends.{BodyIs}
+use Rattle.http_connection.specs.ConnectionTrace.{ArePlaced, ConnectionTrace, stop_in, wrote}
+use Rattle.http_connection.specs.Answers.{IsCause, code_of}
+use Rattle.http_connection.specs.Laws.{SendsIn}
+use Rattle.http_connection.specs.Sends.{BodyIs}
 use Rattle.grpc_stream.specs.CallTrace.{CallTrace}
 use Rattle.grpc_stream.specs.Laws.{GoawaysSend, PumpsSend, ResetsSend}
 use Rattle.grpc_stream.specs.Sends.{AreCarried, IsCarried}

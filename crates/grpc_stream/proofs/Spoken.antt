@@ -5,7 +5,7 @@ use Rattle.h2_exchange.specs.declared.role.Role.{Role}
 use Rattle.h2_exchange.specs.Content.{AreRead}
 use Rattle.h2_exchange.specs.Exchange.{sent}
 use Rattle.h2_exchange.specs.Laws.{WrittenBlocksAreRead}
-use Rattle.h2_conn.specs.ConnectionTrace.{style_of}
+use Rattle.http_connection.specs.ConnectionTrace.{style_of}
 use Rattle.grpc_stream.specs.Laws.{AreSuited, ClientsAsk, ServersAnswer}
 use Rattle.grpc_stream.specs.CallTrace.{CallTrace, CarriesResponseOn, CarriesRequestOn, IsSoundCallTrace, CarriesCallOn}
 

@@ -17,10 +17,10 @@ use Rattle.h2_exchange.specs.Exchange.{Step, Sent, sent_of, sent}
 use Rattle.h2_exchange.specs.Frames.{is_data, is_rst_stream}
 use Rattle.h2_exchange.specs.Streams as streams
 use Rattle.h2_exchange.specs.StreamParts.{Part, Unclosed, has_begun, parts, part_of, block_part}
-use Rattle.h2_conn.specs.declared.preface_only.PrefaceOnly.{PrefaceOnly}
-use Rattle.h2_conn.specs.PrefaceTrace as preface_trace
-use Rattle.h2_conn.proofs.Greeted.{frames, blockless}
-use Rattle.h2_conn.proofs.Unheard.{all_sent}
+use Rattle.http_connection.specs.declared.preface_only.PrefaceOnly.{PrefaceOnly}
+use Rattle.http_connection.specs.PrefaceTrace as preface_trace
+use Rattle.http_connection.proofs.Greeted.{frames, blockless}
+use Rattle.http_connection.proofs.Unheard.{all_sent}
 use Rattle.grpc_stream.proofs.Idle.{none_begun}
 use Rattle.grpc_stream.specs.CallTrace.{CallTrace, IsSoundCallTrace, CarriesCallOn, queued_on, reported_in}
 

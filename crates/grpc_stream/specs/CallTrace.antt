@@ -25,7 +25,7 @@ use Rattle.h2_exchange.specs.StreamParts.{Item, Message, Finish, CarriesResponse
 use Rattle.h2_exchange.specs.Streams.{begun, is_begun, is_open, live}
 use Rattle.h2_exchange.specs.Windows.{spent_on}
 use Rattle.schema_numbers.specs.Numbers.{Numbers}
-use Rattle.h2_conn.specs.ConnectionTrace.{ConnectionTrace, IsSound, events_in, is_alive}
+use Rattle.http_connection.specs.ConnectionTrace.{ConnectionTrace, IsSound, events_in, is_alive}
 
 -- ---- what was used
 

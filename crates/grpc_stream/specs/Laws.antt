@@ -18,10 +18,10 @@ use Rattle.h2_exchange.specs.Streams.{is_begun, is_ended_by, is_live, is_reset}
 use Rattle.h2_exchange.specs.Requests.{RequestsBegin, RequestIs}
 use Rattle.h2_exchange.specs.StreamParts.{AnswersBegin, AnswersAre}
 use Rattle.h2_frames.specs.declared.frame.Frame.{Frame}
-use Rattle.h2_conn.specs.ConnectionTrace.{ConnectionTrace, IsSound, is_alive, stop_in, wrote}
-use Rattle.h2_conn.specs.Laws.{SendsIn}
-use Rattle.h2_conn.specs.Answers.{RunsOutOfMemory, Stops}
-use Rattle.h2_conn.specs.Sends.{CarryReset}
+use Rattle.http_connection.specs.ConnectionTrace.{ConnectionTrace, IsSound, is_alive, stop_in, wrote}
+use Rattle.http_connection.specs.Laws.{SendsIn}
+use Rattle.http_connection.specs.Answers.{RunsOutOfMemory, Stops}
+use Rattle.http_connection.specs.Sends.{CarryReset}
 use Rattle.grpc_stream.specs.NextEvent.{shown_events_of}
 use Rattle.grpc_stream.specs.Sends.{Pumps}
 use Rattle.grpc_heads.specs.CallEnd.{CallEnd, call_end_of}

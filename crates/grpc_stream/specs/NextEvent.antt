@@ -8,8 +8,8 @@ use Rattle.h2_exchange.specs.Events.{Event}
 use Rattle.h2_exchange.specs.Exchange.{collect}
 use Rattle.h2_exchange.specs.StreamParts.{Item, Finish}
 use Rattle.h2_exchange.specs.Stops.{Stop, Error, Calm}
-use Rattle.h2_conn.specs.ConnectionTrace.{ConnectionTrace, Refusal, Stopped, NoMemory}
-use Rattle.h2_conn.specs.Answers as conn
+use Rattle.http_connection.specs.ConnectionTrace.{ConnectionTrace, Refusal, Stopped, NoMemory}
+use Rattle.http_connection.specs.Answers as conn
 use Rattle.grpc_stream.specs.declared.event.CallEvent.{CallEvent}
 use Rattle.grpc_stream.specs.declared.event.CallEvent.TheVariants as says
 use Rattle.grpc_heads.specs.CallEnd.{CallEnd}

@@ -1,6 +1,6 @@
 -- What a listener stands for.
 use Rattle.std.specs.Prelude.{◌≡◌, []}
-use Rattle.h2_conn.specs.PrefaceTrace as preface_trace
+use Rattle.http_connection.specs.PrefaceTrace as preface_trace
 use Rattle.grpc_stream.specs.declared.preface_only_calls.PrefaceOnlyCalls.{PrefaceOnlyCalls}
 use Rattle.grpc_stream.specs.CallTrace.{CallTrace, IsSoundCallTrace}
 

@@ -8,7 +8,7 @@ use Rattle.h2_exchange.specs.Exchange.{Step, Sent, sent}
 use Rattle.h2_exchange.specs.Frames.{has_padding}
 use Rattle.h2_exchange.specs.Streams.{is_live, is_open, is_ended_by}
 use Rattle.h2_exchange.specs.Windows.{may_send}
-use Rattle.h2_conn.specs.ConnectionTrace.{is_alive, wrote}
+use Rattle.http_connection.specs.ConnectionTrace.{is_alive, wrote}
 use Rattle.grpc_stream.specs.CallTrace.{CallTrace, changed, is_ended, unsent_on}
 
 -- heads, data and trailers, on streams that are open; data has no padding, which would count as bytes of messages

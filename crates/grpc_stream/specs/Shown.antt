@@ -1,6 +1,6 @@
 -- What a listener tells of what its connection says, which gives it no event.
-use Rattle.h2_conn.specs.declared.event.H2Event.{H2Event}
-use Rattle.h2_conn.specs.declared.event.H2Event.TheVariants as event
+use Rattle.http_connection.specs.declared.event.H2Event.{H2Event}
+use Rattle.http_connection.specs.declared.event.H2Event.TheVariants as event
 use Rattle.grpc_stream.specs.declared.event.CallEvent.{CallEvent}
 use Rattle.grpc_stream.specs.declared.event.CallEvent.TheVariants as says
 

@@ -20,9 +20,9 @@ pub trait CallConnection: Drop {
     ghost use Rattle.h2_exchange.specs.declared.role.Role.TheVariants.{Client, Server};
     ghost use Rattle.h2_exchange.specs.StreamParts.{Message, Finish};
     ghost use Rattle.h2_exchange.specs.Streams.{is_live};
-    ghost use Rattle.h2_conn.specs.Answers.{IsBetween};
-    ghost use Rattle.h2_conn.specs.ConnectionTrace.{dropped_more, fed_more, held, is_alive, wrote};
-    ghost use Rattle.h2_conn.specs.Sends.{CarryBlock, CarryCredit, CarryReset, BeginsWhere, SendsWhere};
+    ghost use Rattle.http_connection.specs.Answers.{IsBetween};
+    ghost use Rattle.http_connection.specs.ConnectionTrace.{dropped_more, fed_more, held, is_alive, wrote};
+    ghost use Rattle.http_connection.specs.Sends.{CarryBlock, CarryCredit, CarryReset, BeginsWhere, SendsWhere};
     ghost use Rattle.grpc_stream.specs.NextEvent.{NextEvent, is_event};
     ghost use Rattle.grpc_stream.specs.Sends.{Pumps};
     ghost use Rattle.grpc_heads.specs.CallEnd as call_end;

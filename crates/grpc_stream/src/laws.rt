@@ -1,7 +1,7 @@
 //! What the calls of a connection spell.
 ghost use Rattle.grpc_stream.specs.ClientReads.{AnswersBeginMessages, ClientReadsMessages};
 ghost use Rattle.grpc_stream.specs.Laws.{AllIsAnswered, AllIsAsked, ClientsAsk, GoawaysSend, OutOfMemorySends, PumpedIsAnswered, PumpedIsAsked, PumpsSend, ResetsSend, SendingIsKept, ServersAnswer, ServersShow};
-ghost use Rattle.h2_conn.specs.Laws.{EventsSend, RefusalsSend};
+ghost use Rattle.http_connection.specs.Laws.{EventsSend, RefusalsSend};
 
 use h2_exchange::laws::written_blocks_are_read;
 

@@ -1,5 +1,5 @@
 //! The smallest calls.
-use h2_conn::PrefaceOnly;
+use http_connection::PrefaceOnly;
 
 /// Calls on a connection that takes no frame: nothing is asked, and nothing can be answered.
 #[derive(Drop)]

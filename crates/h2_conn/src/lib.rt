@@ -1,24 +1,25 @@
-//! A connection of HTTP/2 as the layers above use it: what it gives of the bytes that it is fed, and what it sends.
+//! A connection of HTTP/2 (RFC 9113): frames, header blocks, streams and windows put together.
 //!
-//! [`HttpConnection`] is the trait that a connection meets: `feed` it what came, ask `next_event` until it says
-//! `NeedMore`, send by `begin`, `send_head`, `send_piece`, `send_trailers` and `reset`, and pass on what `out` shows.
-//! [`PrefaceOnly`] is the smallest one. The contract is `specs/ConnectionTrace.antt`, what it was used for, and
-//! `specs/Answers.antt`, what it says next.
+//! Call [`H2Conn::new`], and then what the trait `http_connection::HttpConnection` says, which is the contract; `specs/Standing.antt`
+//! says how a connection stands for what was received and sent.
 //!
 //! ```text
-//! let mut connection = PrefaceOnly::new(alloc, Role::Server, limits)?;
-//! connection.feed(piece)?;
-//! let H2Event::NeedMore = connection.next_event() else { /* it refused */ };
-//! write_all(connection.out());
+//! let mut conn = H2Conn::new(alloc, Role::Server, limits)?;
+//! conn.feed(bytes)?;
+//! match conn.next_event() {
+//!     H2Event::Head(stream, fields, last) => { /* a request begins */ }
+//!     H2Event::NeedMore => { /* send `conn.out()`, and feed more */ }
+//!     ..
+//! }
 //! ```
 #![tactic(auto)]
 
-mod connection;
-mod draining;
-mod event;
-mod preface_only;
+mod asked;
+mod blocks;
+mod conn;
+mod heard;
+mod sizes;
+mod texts;
+mod watch;
 
-pub use connection::HttpConnection;
-pub use draining::drain;
-pub use event::H2Event;
-pub use preface_only::PrefaceOnly;
+pub use conn::H2Conn;

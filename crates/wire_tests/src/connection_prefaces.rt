@@ -1,6 +1,6 @@
 use bytes::Bytes;
-use h2_conn::{H2Event, HttpConnection, PrefaceOnly, drain};
 use h2_exchange::{H2Limits, Role};
+use http_connection::{H2Event, HttpConnection, PrefaceOnly, drain};
 use std::alloc::{AllocError, Global};
 use std::test::Fail;
 

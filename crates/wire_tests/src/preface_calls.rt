@@ -1,7 +1,7 @@
 use bytes::Bytes;
 use grpc_stream::{CallConnection, CallEvent, PrefaceOnlyCalls};
-use h2_conn::PrefaceOnly;
 use h2_exchange::{H2Limits, Role};
+use http_connection::PrefaceOnly;
 use schema_numbers::{Numbering, default_numbering};
 use std::alloc::{AllocError, Global};
 use std::test::Fail;

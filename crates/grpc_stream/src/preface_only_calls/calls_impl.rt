@@ -1,6 +1,6 @@
 ghost use Rattle.std.specs.Prelude.{◌≡◌};
-ghost use Rattle.h2_conn.specs.ConnectionTrace.{ConnectionTrace};
-ghost use Rattle.h2_conn.specs.PrefaceTrace as preface_trace;
+ghost use Rattle.http_connection.specs.ConnectionTrace.{ConnectionTrace};
+ghost use Rattle.http_connection.specs.PrefaceTrace as preface_trace;
 ghost use Rattle.grpc_stream.specs.PrefaceCallsTrace.{StandsFor};
 ghost use Rattle.grpc_stream.specs.Shown.{shown_of};
 ghost use Rattle.grpc_stream.specs.CallTrace.{fresh};
@@ -11,8 +11,8 @@ use crate::calls::CallConnection;
 use crate::event::CallEvent;
 use bytes::Bytes;
 use grpc_heads::{Method, Status};
-use h2_conn::{H2Event, HttpConnection, PrefaceOnly};
 use h2_exchange::SendFault;
+use http_connection::{H2Event, HttpConnection, PrefaceOnly};
 use schema_numbers::Numbering;
 use std::alloc::AllocError;
 

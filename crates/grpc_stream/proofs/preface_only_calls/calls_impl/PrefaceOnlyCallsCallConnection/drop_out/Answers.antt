@@ -1,6 +1,6 @@
 use Rattle.std.proofs.Common.{take}
-use Rattle.h2_conn.specs.ConnectionTrace.{dropped_more}
-use Rattle.h2_conn.specs.PrefaceTrace as preface_trace
+use Rattle.http_connection.specs.ConnectionTrace.{dropped_more}
+use Rattle.http_connection.specs.PrefaceTrace as preface_trace
 use Rattle.grpc_stream.specs.CallTrace.{changed}
 use Rattle.grpc_stream.proofs.Unspelled.{sound}
 use Rattle.grpc_stream.proofs.preface_only_calls.calls_impl.PrefaceOnlyCallsCallConnection.drop_out.Goals as goal

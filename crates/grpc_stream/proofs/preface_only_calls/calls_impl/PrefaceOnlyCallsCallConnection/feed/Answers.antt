@@ -1,4 +1,4 @@
-use Rattle.h2_conn.specs.ConnectionTrace.{fed_more}
+use Rattle.http_connection.specs.ConnectionTrace.{fed_more}
 use Rattle.grpc_stream.specs.CallTrace.{changed}
 use Rattle.grpc_stream.proofs.Unspelled.{sound}
 use Rattle.grpc_stream.proofs.preface_only_calls.calls_impl.PrefaceOnlyCallsCallConnection.feed.Goals as goal

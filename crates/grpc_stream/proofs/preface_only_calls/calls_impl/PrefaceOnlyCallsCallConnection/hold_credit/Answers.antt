@@ -1,5 +1,5 @@
 use Rattle.std.proofs.Common.{[]}
-use Rattle.h2_conn.specs.ConnectionTrace.{held, wrote}
+use Rattle.http_connection.specs.ConnectionTrace.{held, wrote}
 use Rattle.grpc_stream.specs.CallTrace.{changed}
 use Rattle.grpc_stream.proofs.Unspelled.{sound}
 use Rattle.grpc_stream.proofs.preface_only_calls.calls_impl.PrefaceOnlyCallsCallConnection.hold_credit.Goals as goal

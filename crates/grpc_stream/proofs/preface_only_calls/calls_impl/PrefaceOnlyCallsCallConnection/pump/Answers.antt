@@ -1,5 +1,5 @@
 use Rattle.std.proofs.Common.{[]}
-use Rattle.h2_conn.specs.ConnectionTrace.{wrote}
+use Rattle.http_connection.specs.ConnectionTrace.{wrote}
 use Rattle.grpc_stream.specs.CallTrace.{changed}
 use Rattle.grpc_stream.proofs.Idle.{pumps, wrote_none}
 use Rattle.grpc_stream.proofs.Unspelled.{sound}

@@ -1,0 +1,7 @@
+/// How far the first message of a request is: its first five bytes, and how many bytes there are.
+#[derive(Clone, Copy, Debug)]
+pub struct Asked {
+    pub id: u32,
+    pub word: u64,
+    pub count: u32,
+}

@@ -1,0 +1,182 @@
+//! Requests that are cut off before their first message is whole, and how many more may be.
+ghost use Rattle.std.specs.Prelude.{◌≡◌, ◌≤◌, ◌<◌, ◌+◌, nat_lt, min, true, false, [], OnOk, OnErr};
+ghost use Rattle.std.specs.Vec.{vec_capacity, vec_len};
+ghost use Rattle.h2_conn.specs.Watching.{asked_on, is_whole, cut_on, cut_if, over_on, without, taken_on, ended_if, asked_with, word_with};
+
+use crate::asked::Asked;
+use std::alloc::{AllocError, Global};
+use std::marker::Model;
+
+/// The number so far with as many of the bytes as it still lacks.
+#[tactic(auto, using(std::proofs::lemmas::List::take_min))]
+fn word_with(word: u64, count: u32, bytes: &[u8]) -> u64
+    ensures { result ≡ word_with word count bytes.now }
+{
+    let n = 5usize.saturating_sub(count as usize).min(bytes.len());
+    let (front, _) = bytes.split_at(n);
+    front.iter().fold(
+        word,
+        |word: u64, byte| word.saturating_mul(256).saturating_add(u64::from(*byte)),
+    )
+}
+
+fn count_with(count: u32, more: usize) -> u32
+    ensures { result ≡ min (count + more) 4194309 }
+{
+    (u64::from(count) + (more as u64).min(4_194_309)).min(4_194_309) as u32
+}
+
+fn next_of(id: u32, asked: Option<Asked>, bytes: &[u8]) -> Asked
+    ensures { result ≡ asked_with id bytes.now asked }
+{
+    match asked {
+        Some(asked) => Asked {
+            id,
+            word: word_with(asked.word, asked.count, bytes),
+            count: count_with(asked.count, bytes.len()),
+        },
+        None => Asked {
+            id,
+            word: word_with(0, 0, bytes),
+            count: count_with(0, bytes.len()),
+        },
+    }
+}
+
+fn remove(asked: &mut Vec<Asked>, id: u32)
+    ensures items { asked.new.items ≡ without id asked.old.items }
+    ensures bound { vec_len asked.new ≤ vec_len asked.old }
+    ensures capacity { vec_capacity asked.new ≡ vec_capacity asked.old }
+{
+    asked.retain(|asked| asked.id != id);
+}
+
+/// The requests of live streams, and how many more may be cut off.
+#[derive(Debug, Drop)]
+pub struct Watch {
+    left: u64,
+    is_passed: bool,
+    asked: Vec<Asked>,
+}
+
+impl Model for Watch {
+    ghost use Rattle.h2_conn.specs.Watching.{Watch};
+
+    ghost Value = { Watch };
+
+    ghost view = { λ w. record { left = w.left; is_passed = w.is_passed; asked = w.asked.items } };
+}
+
+impl Watch {
+    /// A watch that allows 1,000 cuts.
+    pub fn new(alloc: Global) -> Watch
+        ensures { result ≡ record { left = 1000; is_passed = false; asked = [] } }
+    {
+        Watch {
+            left: 1000,
+            is_passed: false,
+            asked: Vec::new(alloc),
+        }
+    }
+
+    /// Whether more requests were cut off than may be.
+    pub fn is_passed(&self) -> bool
+        ensures { result ≡ self.now.is_passed }
+    {
+        self.is_passed
+    }
+
+    fn find(&self, id: u32) -> Option<Asked>
+        ensures { result ≡ asked_on id self.now }
+    {
+        self.asked.iter().copied().find(|asked| asked.id == id)
+    }
+
+    fn has_whole(&self, id: u32) -> bool
+        ensures { result ≡ is_whole (asked_on id self.now) }
+    {
+        match self.find(id) {
+            Some(asked) => asked.count >= 5
+                && asked.word <= 4_194_304
+                && 5 + asked.word <= u64::from(asked.count),
+            None => false,
+        }
+    }
+
+    fn take_cut(&mut self, is_whole: bool)
+        ensures { self.new ≡ cut_if is_whole self.old }
+    {
+        if !is_whole {
+            self.is_passed = self.is_passed || self.left == 0;
+            self.left = self.left.saturating_sub(1);
+        }
+    }
+
+    /// Takes that a stream is over.
+    pub fn over(&mut self, id: u32)
+        ensures { self.new ≡ over_on id self.old }
+    {
+        remove(&mut self.asked, id);
+    }
+
+    /// Takes that a stream is reset, which cuts its request off unless the first message of it is whole.
+    pub fn cut(&mut self, id: u32)
+        ensures { self.new ≡ cut_on id self.old }
+    {
+        let is_whole = self.has_whole(id);
+        self.take_cut(is_whole);
+        self.over(id);
+    }
+
+    /// Takes bytes that stand on a request. Without memory nothing changes.
+    pub fn take(&mut self, id: u32, bytes: &[u8]) -> Result<(), AllocError>
+        ensures ok { OnOk result (self.new ≡ taken_on id bytes.now self.old) }
+        ensures err { OnErr result (self.new ≡ self.old) }
+    {
+        let next = next_of(id, self.find(id), bytes);
+        self.asked.reserve(1)?;
+        remove(&mut self.asked, id);
+        self.asked.push_reserved(next);
+        Ok(())
+    }
+
+    /// Takes that the client ends a call. Past 2^64 - 1 ends nothing changes.
+    pub fn end(&mut self) -> Result<(), AllocError>
+        ensures ok { OnOk result (self.new ≡ ended_if true self.old) }
+        ensures err { OnErr result (self.new ≡ self.old) }
+    {
+        if self.left == u64::MAX {
+            return Err(AllocError);
+        }
+        self.left += 1;
+        Ok(())
+    }
+
+    /// Takes bytes that stand last on a request, which the client ends. Without memory, and past 2^64 - 1 ends, nothing changes.
+    pub fn take_last(&mut self, id: u32, bytes: &[u8]) -> Result<(), AllocError>
+        ensures ok { OnOk result (self.new ≡ ended_if true (taken_on id bytes.now self.old)) }
+        ensures err { OnErr result (self.new ≡ self.old) }
+    {
+        if self.left == u64::MAX {
+            return Err(AllocError);
+        }
+        self.take(id, bytes)?;
+        self.left += 1;
+        Ok(())
+    }
+
+    /// Whether one more end can be counted.
+    pub fn can_end(&self) -> bool
+        ensures { result ≡ nat_lt self.now.left 18446744073709551615 }
+    {
+        self.left < u64::MAX
+    }
+
+    /// Takes that the client ends a call, which can be counted.
+    pub fn count_end(&mut self)
+        requires { self.old.left < 18446744073709551615 }
+        ensures { self.new ≡ ended_if true self.old }
+    {
+        self.left += 1;
+    }
+}

@@ -1,0 +1,9 @@
+pub mod Said
+pub mod Unheard
+pub mod Greeted
+pub mod Placed
+pub mod Sound
+pub mod Answered
+pub mod Opened
+pub mod Asked
+pub mod Gone
