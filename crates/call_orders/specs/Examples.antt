@@ -126,9 +126,11 @@ pub record ShortCalls (s : Setting) (get flush : List ℕ) (row : Row) : Type 0 
   pub get_dropped : answers s (Handles (Dropped 1) [] None ∷ Continues 1 None ∷ selects get (copies 65 row)) 1 ≡ responds s (copies 64 row) ∷ []
   pub get_nothing : answers s (selects get []) 1 ≡ ends 0 [] ∷ []
   pub nothing_given : standing s (Continues 1 None ∷ selects get []) 1 ≡ is Over (ends 0 [] ∷ [])
-  pub flushed : standing s (Handles (Finished 1) (did (command.Flush by.Override which.All (pos 9)) (reply.Flushed false) ∷ []) None ∷ asks flush [] ∷ begins_flush ∷ []) 1
+  pub flushed : standing s (Handles (Finished 1) (did (command.Flush by.Override which.All (pos 9)) (reply.Flushed false) ∷ []) None
+      ∷ asks flush [] ∷ begins_flush ∷ []) 1
       ≡ is Over (Message (flush_response s (pos 9) false) ∷ ends 0 [] ∷ [])
-  pub refused : standing s (Handles (Finished 1) (did (command.Flush (by.Id 4) which.All (pos 9)) (reply.FlushRefused 5) ∷ []) None ∷ asks flush [] ∷ begins_flush ∷ []) 1
+  pub refused : standing s (Handles (Finished 1) (did (command.Flush (by.Id 4) which.All (pos 9)) (reply.FlushRefused 5) ∷ []) None
+      ∷ asks flush [] ∷ begins_flush ∷ []) 1
       ≡ is Over (ends 9 (codes "not primary") ∷ [])
   pub none : standing s (Handles (Finished 1) [] None ∷ begins_get ∷ []) 1 ≡ is Over (ends 3 (codes "one request expected") ∷ [])
   pub second : standing s (Handles (Finished 1) [] None ∷ asks get [] ∷ asks get [] ∷ begins_get ∷ []) 1 ≡ is Over (ends 3 (codes "one request expected") ∷ [])
