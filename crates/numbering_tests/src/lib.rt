@@ -1,0 +1,5 @@
+//! Tests of numbering files.
+#![tactic(auto)]
+
+#[cfg(test)]
+mod files;
