@@ -37,12 +37,12 @@ module _ (g : PrefaceOnly) (c : ConnectionTrace) (h : preface_trace.StandsFor g 
       ∙ ap (λ (ids : List ℕ). filter (is_live c.role (map Sent (frames h.parts.sent.settings h.parts.sent.update h.parts.sent.last))) ids)
       (none_begun c.role h.parts.sent.settings h.parts.sent.update h.parts.sent.last)
 
-none_of : (a b c : Bool) → b ≡ false → (a && b && c) ≡ false
-none_of false b c e = refl
-none_of true b c e = ap (λ (x : Bool). x && c) e
+none_of : (a b c d : Bool) → b ≡ false → (a && b && c && d) ≡ false
+none_of false b c d e = refl
+none_of true b c d e = ap (λ (x : Bool). x && c && d) e
 
 pub not_taking : (g : PrefaceOnly) (t : CallTrace) → preface_trace.StandsFor g t.connection_trace → (id : ℕ) → is_taking t id ≡ false
-not_taking g t h id = none_of (is_alive t.connection_trace) _ (not (is_ended t id)) (not_open g t.connection_trace h id)
+not_taking g t h id = none_of (is_alive t.connection_trace) _ _ (not (is_ended t id)) (not_open g t.connection_trace h id)
 
 none_of_both : (a b : Bool) → b ≡ false → (a && b) ≡ false
 none_of_both false b e = refl

@@ -14,7 +14,7 @@ use Rattle.h2_frames.specs.declared.frame.FrameBody.{FrameBody}
 use Rattle.hpack_tables.specs.declared.field.Field.{Field}
 use Rattle.h2_exchange.specs.declared.role.Role.{Role}
 use Rattle.h2_exchange.specs.declared.role.Role.TheVariants.{Client, Server}
-use Rattle.h2_exchange.specs.Calls.{Call, Answer, calls, answers}
+use Rattle.h2_exchange.specs.Calls.{Call, Begin, Answer, calls, answers}
 use Rattle.h2_exchange.specs.Exchange.{Step, Sent, sent}
 use Rattle.h2_exchange.specs.Frames.{stream_of, is_rst_stream, has_padding}
 use Rattle.h2_exchange.specs.Outgoing.{IsErrorReset}
@@ -85,9 +85,20 @@ is_end (Finish close) = true
 abbrev pub is_ended : CallTrace → ℕ → Bool
 is_ended t id = list_any is_end (queued_on t id)
 
--- More may be taken for a stream: it is open, its end was not taken, and the connection has not refused.
+-- a client began a call on a stream
+abbrev pub begins_on : ℕ → PeerEvent → Bool
+begins_on id (Asked (Begin stream method)) = stream == id
+begins_on id other = false
+
+-- A server can answer a call once it was told that it began. A client's streams are its calls.
+abbrev pub is_told_of : Role → List PeerEvent → ℕ → Bool
+is_told_of Server reported id = list_any (begins_on id) reported
+is_told_of Client reported id = true
+
+-- More may be taken for a stream: it is open, its call was told, its end was not taken, and the connection has not refused.
 abbrev pub is_taking : CallTrace → ℕ → Bool
-is_taking t id = is_alive t.connection_trace && is_open t.connection_trace.role t.connection_trace.frames id && not (is_ended t id)
+is_taking t id = is_alive t.connection_trace && is_open t.connection_trace.role t.connection_trace.frames id
+    && is_told_of t.connection_trace.role t.reported id && not (is_ended t id)
 
 abbrev pub text_of : Item CallEnd → List ℕ
 text_of (Message message) = item message

@@ -99,9 +99,9 @@ pub trait CallConnection: Drop {
         ensures err { OnErr result (Keeps (stands self.old) (stands self.new)) }
         ensures ahead { ahead self.new ≡ ahead self.old };
 
-    /// How many bytes of messages no frame holds yet, at most 2^64 - 1.
+    /// How many bytes of messages no frame holds yet, at most 2^64 - 1. After a refusal none will.
     fn waiting(&self) -> u64
-        ensures { (t : CallTrace) → stands self.now t → result ≡ min (waiting_in t) (2 ^ 64 - 1) };
+        ensures { (t : CallTrace) → stands self.now t → t.connection_trace.refusal ≡ None → result ≡ min (waiting_in t) (2 ^ 64 - 1) };
 
     /// Sends what the windows allow.
     fn pump(&mut self) -> Result<(), AllocError>
