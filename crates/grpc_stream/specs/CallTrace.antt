@@ -14,7 +14,7 @@ use Rattle.h2_frames.specs.declared.frame.FrameBody.{FrameBody}
 use Rattle.hpack_tables.specs.declared.field.Field.{Field}
 use Rattle.h2_exchange.specs.declared.role.Role.{Role}
 use Rattle.h2_exchange.specs.declared.role.Role.TheVariants.{Client, Server}
-use Rattle.h2_exchange.specs.Calls.{Call, Begin, Answer, calls, answers}
+use Rattle.h2_exchange.specs.Calls.{Call, Begun, Answer, calls, answers}
 use Rattle.h2_exchange.specs.Exchange.{Step, Sent, sent}
 use Rattle.h2_exchange.specs.Frames.{stream_of, is_rst_stream, has_padding}
 use Rattle.h2_exchange.specs.Outgoing.{IsErrorReset}
@@ -87,7 +87,7 @@ is_ended t id = list_any is_end (queued_on t id)
 
 -- a client began a call on a stream
 abbrev pub begins_on : ℕ → PeerEvent → Bool
-begins_on id (Asked (Begin stream method)) = stream == id
+begins_on id (Asked (Begun stream method)) = stream == id
 begins_on id other = false
 
 -- A server can answer a call once it was told that it began. A client's streams are its calls.
