@@ -1,0 +1,71 @@
+-- A run of turns.
+use Rattle.std.proofs.Common.{◌≡◌, ◌⊎◌, ℕ, Bool, true, false, map, List, [], ◌∷◌, ◌++◌, Option, Some, None, inl, inr, refl, sym, ap, ◌∙◌, subst, append_assoc, append-nil}
+use Rattle.std.proofs.lemmas.List.{map-append}
+use Rattle.std.specs.Option.{option_map}
+use Rattle.rig_io.specs.Fault.{StaysUnless}
+use Rattle.rig_io.specs.Link.{Piece}
+use Rattle.table_lock.specs.declared.machine.Entry.{Entry}
+use Rattle.table_lock.specs.Lock.{entry}
+use Rattle.table_lock.specs.Passes.{PassView, IsExtended, IsSound}
+use Rattle.table_lock.proofs.Extends.{extended_more, extended_none}
+use Rattle.table_model.specs.declared.command.Command.{Command}
+use Rattle.table_model.specs.declared.reply.Reply.{Reply}
+use Rattle.table_model.specs.Event.{Event}
+use Rattle.server_turns.specs.Making.{Makes, entries_of}
+use Rattle.server_turns.specs.Past.{Past, nothing}
+use Rattle.server_turns.specs.Serving.{Account}
+use Rattle.server_turns.specs.Turning.{During, behind}
+
+pieces_none : (first : Option (List Piece)) → first ≡ option_map (λ told. told ++ []) first
+pieces_none None = refl
+pieces_none (Some told) = ap (λ (l : List Piece). (let o : Option (List Piece) = Some l in o)) (sym (append-nil told))
+
+pieces_then : (first : Option (List Piece)) (xs ys : List Piece) →
+    option_map (λ told. told ++ ys) (option_map (λ told. told ++ xs) first) ≡ option_map (λ told. told ++ (xs ++ ys)) first
+pieces_then None xs ys = refl
+pieces_then (Some told) xs ys = ap (λ (l : List Piece). (let o : Option (List Piece) = Some l in o)) (append_assoc told xs ys)
+
+module _ {G : Type 0} (lawful : G → List (Entry Command Reply) → Type 0) (setup : G) where
+  extended_then : (p q r : PassView Command Reply G) (xs ys : List Event) → IsExtended lawful setup p q (entries_of p.number xs) →
+      IsExtended lawful setup q r (entries_of q.number ys) → IsExtended lawful setup p r (entries_of p.number (xs ++ ys))
+  extended_then p q r xs ys h k =
+      let same : entries_of q.number ys ≡ entries_of p.number ys = ap (λ (n : ℕ). entries_of n ys) h.same.2 in
+      let joined : entries_of p.number xs ++ entries_of q.number ys ≡ entries_of p.number (xs ++ ys) =
+      ap (λ (l : List (Entry Command Reply)). entries_of p.number xs ++ l) same ∙ sym (map-append (λ (e : Event). entry p.number e.command e.reply) xs ys) in
+      subst (λ (l : List (Entry Command Reply)). IsExtended lawful setup p r l) joined
+      (extended_more lawful setup p q r (entries_of p.number xs) (entries_of q.number ys) h k)
+
+  pub makes_then : (spent : Bool) (p q r : PassView Command Reply G) (xs ys : List Event) → Makes lawful setup false p q xs →
+      Makes lawful setup spent q r ys → Makes lawful setup spent p r (xs ++ ys)
+  makes_then false p q r xs ys h k = extended_then p q r xs ys h k
+  makes_then true p q r xs ys h k = (k.0, extended_then p q k.0 xs ys h k.1, k.2, k.3)
+
+  -- So a run stands behind its turns: what the link told since it began, what the pass made, and how the connection was used.
+  abbrev pub Ran : Option (List Piece) → Option (List Piece) → Bool → PassView Command Reply G → PassView Command Reply G →
+      (Past → Account → Type 0) → Type 0
+  Ran first now spent p q stands = (past : Past) × (a : Account) × (now ≡ option_map (λ told. told ++ past.pieces) first)
+      × Makes lawful setup spent p q past.own × stands past a
+
+  pub ran_none : (told : Option (List Piece)) (p : PassView Command Reply G) (stands : Past → Account → Type 0) → IsSound lawful setup p →
+      (a : Account) × stands nothing a → Ran told told false p p stands
+  ran_none told p stands sound h = (nothing, h.0, pieces_none told, extended_none lawful setup p sound, h.1)
+
+  pub ran_more : (first mid now : Option (List Piece)) (spent : Bool) (p q r : PassView Command Reply G) (stands stands' : Past → Account → Type 0) →
+      ((past : Past) (before : Account) → stands past before → (turn : During) × (after : Account)
+      × (now ≡ option_map (λ told. told ++ turn.pieces) mid) × Makes lawful setup spent q r turn.own × stands' (behind turn past) after) →
+      Ran first mid false p q stands → Ran first now spent p r stands'
+  ran_more first mid now spent p q r stands stands' goes h =
+      (let past : Past = h.0 in
+      let g = goes past h.1 h.4 in
+      let turn : During = g.0 in (
+        behind turn past,
+        g.1,
+        g.2 ∙ (ap (λ (o : Option (List Piece)). option_map (λ told. told ++ turn.pieces) o) h.2 ∙ pieces_then first past.pieces turn.pieces),
+        makes_then spent p q r past.own turn.own h.3 g.3,
+        g.4,
+      ))
+
+-- no fault, so the count is as it was
+pub unfaulted : (before now : ℕ) (failed : Type 0) → (failed → ⊥) → StaysUnless before now failed → now ≡ before
+unfaulted before now failed fine (inl h) = absurd (fine h)
+unfaulted before now failed fine (inr e) = e

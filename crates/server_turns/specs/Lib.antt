@@ -1,0 +1,4 @@
+pub mod Past
+pub mod Making
+pub mod Serving
+pub mod Turning
