@@ -12,10 +12,10 @@ import tempfile
 TOP = pathlib.Path(__file__).resolve().parent.parent
 
 
-def build(source: pathlib.Path, crates: dict[str, str], others: dict[str, pathlib.Path] | None = None) -> pathlib.Path:
-    """Proves and builds the program; `crates` has the repository's crates below it with their lines of crates.txt,
+def build(source: pathlib.Path, crates: dict[str, str], others: dict[str, pathlib.Path] | None = None, is_proved: bool = True) -> pathlib.Path:
+    """Proves and builds the program, or lays it out for `rt try` where it isn't timed; `crates` has the repository's crates below it with their lines of crates.txt,
     and under the name 'program' the crates that the program names. `others` has the program's files beside main.rt,
-    by their places in its folder. Answers the executable."""
+    by their places in its folder. Answers the executable, or the folder of what is laid out."""
     room = pathlib.Path(tempfile.mkdtemp(prefix="gribi-bench-"))
     atexit.register(shutil.rmtree, room, ignore_errors=True)
     for name in (line.split()[0] for line in crates):
@@ -28,6 +28,8 @@ def build(source: pathlib.Path, crates: dict[str, str], others: dict[str, pathli
     (room / "crates.txt").write_text("".join(f"{name}: {line}\n" for name, line in crates.items()))
     (room / "HANDLES").write_text((TOP / "HANDLES").read_text())
     subprocess.run(["git", "init", "-q", str(room)], check=True)
+    if not is_proved:
+        return program
     subprocess.run(["rt", "run"], cwd=program, stdout=subprocess.DEVNULL, check=True)
     return program / "out" / "program"
 
