@@ -47,12 +47,6 @@ unsent s a = sum_by (λ id. length (flat_map text_of (answers s a.actions id)) -
 abbrev pub IsOwedCollect : Setting → Past → Account → ℕ → Type 0
 IsOwedCollect s past a session = (awaits past session ≡ true) ⊎ ((id : ℕ) × ((standing s a.actions id).state ≡ Modifies session true))
 
--- the account behind a turn goes on from the one before it
-pub record GoesOnFrom (before after : Account) : Type 0 where
-  pub limits : after.limits ≡ before.limits
-  pub heads : IsPrefix before.heads after.heads
-  pub frames : IsPrefix before.frames after.frames
-
 -- What holds behind a turn of a connection that isn't over then: the first account is of its start, and the second of its end.
 pub record KeepsUp (s : Setting) (past now : Past) (before after : Account) (turn : During) (waiting : ℕ) (from to : Counts) : Type 0 where
   -- no more waits than the streams are owed
@@ -76,11 +70,16 @@ pub record KeepsUp (s : Setting) (past now : Past) (before after : Account) (tur
 abbrev pub IsProgress : Past → During → Type 0
 IsProgress past turn = (0 < moved turn.pieces) ⊎ ((past.is_ended ≡ false) × (turn.is_ended ≡ true)) ⊎ (list_any is_progress turn.own ≡ true)
 
--- The end of the input was given in this turn or before it, exactly where it is said so.
-abbrev pub TellsEnd : Past → During → Counts → Counts → Type 0
-TellsEnd past turn from to =
-    (turn.is_ended ≡ true → (past.is_ended ≡ true) ⊎ HasRisen from.ends to.ends)
-    × ((past.is_ended ≡ true) ⊎ (from.ends < to.ends) → turn.is_ended ≡ true)
+-- A turn goes on from one account to the next: no frame and no entry is taken back.
+pub record GoesOn (past : Past) (before after : Account) (turn : During) (from to : Counts) : Type 0 where
+  pub limits : after.limits ≡ before.limits
+  pub heads : IsPrefix before.heads after.heads
+  pub frames : IsPrefix before.frames after.frames
+  -- it reads at most so many bytes
+  pub size : length (flat_map received_bytes turn.pieces) ≤ 16384
+  -- the end of the input was given in this turn or before it, exactly where it is said so
+  pub given : turn.is_ended ≡ true → (past.is_ended ≡ true) ⊎ HasRisen from.ends to.ends
+  pub told : (past.is_ended ≡ true) ⊎ (from.ends < to.ends) → turn.is_ended ≡ true
 
 -- why a turn answers so
 abbrev pub IsAnswer : Past → During → Counts → Counts → TurnEnd → Type 0

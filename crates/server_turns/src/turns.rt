@@ -8,7 +8,7 @@ ghost use Rattle.table_lock.specs.Passes.{IsPassOf, IsSound};
 ghost use Rattle.server_turns.specs.Making.{Makes};
 ghost use Rattle.server_turns.specs.Past.{Past, nothing};
 ghost use Rattle.server_turns.specs.Serving.{Account, Serves};
-ghost use Rattle.server_turns.specs.Turning.{Counts, During, GoesOnFrom, IsAnswer, IsFault, KeepsUpUnlessOver, TellsEnd, behind, is_spent, outcome_of};
+ghost use Rattle.server_turns.specs.Turning.{Counts, During, GoesOn, IsAnswer, IsFault, KeepsUpUnlessOver, behind, is_spent, outcome_of};
 ghost use Rattle.server_turns.specs.declared.outcome.Outcome.{Outcome as OutcomeView};
 
 use crate::outcome::{Outcome, TurnEnd};
@@ -49,8 +49,8 @@ pub trait ServedByTurns: Drop {
         ensures serves { (past : Past) (before : Account) → stands self.old setting.now past before None
             → (turn : During) × (after : Account) × (L.pieces link.new ≡ option_map (λ told. told ++ turn.pieces) (L.pieces link.old))
             × Makes M.lawful lock.now.setup (is_spent (outcome_of result)) pass.old pass.new turn.own
-            × stands self.new setting.now (behind turn past) after (outcome_of result) × GoesOnFrom before after
-            × TellsEnd past turn (record { reads = L.read_idles link.old; writes = L.write_idles link.old; ends = L.ends link.old })
+            × stands self.new setting.now (behind turn past) after (outcome_of result)
+            × GoesOn past before after turn (record { reads = L.read_idles link.old; writes = L.write_idles link.old; ends = L.ends link.old })
             (record { reads = L.read_idles link.new; writes = L.write_idles link.new; ends = L.ends link.new })
             × IsAnswer past turn (record { reads = L.read_idles link.old; writes = L.write_idles link.old; ends = L.ends link.old })
             (record { reads = L.read_idles link.new; writes = L.write_idles link.new; ends = L.ends link.new }) result
@@ -62,7 +62,8 @@ pub trait ServedByTurns: Drop {
         ensures fault { (past : Past) (a : Account) → stands self.old setting.now past a None →
             HasCause (L.faults link.old) (L.faults link.new) (IsFault result) × StaysUnless (L.faults link.old) (L.faults link.new) (IsFault result) };
 
-    ghost serves: { (x : Self) (s : SettingView) (past : Past) (a : Account) (outcome : Option OutcomeView) → stands x s past a outcome → Serves s past a outcome };
+    ghost serves: { (x : Self) (s : SettingView) (past : Past) (a : Account) (outcome : Option OutcomeView) → stands x s past a outcome →
+        Serves s past a outcome };
 }
 
 /// Serves a link to its end, by turns of a new connection.
