@@ -9,3 +9,4 @@ pub mod OperateSteps
 pub mod WorkerSteps
 pub mod PurgeSteps
 pub mod CoreLaws
+pub mod Recording

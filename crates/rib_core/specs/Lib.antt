@@ -3,6 +3,7 @@ pub mod Core
 pub mod Decisions
 pub mod Ends
 pub mod Ranges
+pub mod Recorded
 pub mod Removals
 pub mod Stands
 pub mod Tables

@@ -5,6 +5,8 @@
 //! `act` for each command. The contract is `specs/Stands`: after a call the core stands for the history with that event, so
 //! that the reply is the one-thread server's of `table_model`'s `specs/Reply`.
 //!
+//! It is a `Machine` of table_lock, so that any number of passes can share it (`specs/Recorded`).
+//!
 //! An operation takes all memory that its entry will ever need before it changes anything. So a DELETE of a key that is
 //! there, a Flush, the end of a session, a Take and a Report take none.
 //!
@@ -24,6 +26,7 @@ mod acknowledgements;
 mod copies;
 mod flushes;
 mod laws;
+mod locked;
 mod machine;
 mod operations;
 mod reserve;
