@@ -9,6 +9,7 @@ use Rattle.h2_frames.specs.declared.code.TheConstants.ErrorCode as code
 use Rattle.h2_frames.specs.declared.frame.Frame.{Frame}
 use Rattle.h2_frames.specs.Layout.{body_of}
 use Rattle.h2_exchange.specs.declared.limits.H2Limits.{H2Limits}
+use Rattle.h2_exchange.specs.declared.role.Role.{Role}
 use Rattle.h2_exchange.specs.declared.role.Role.TheVariants.{Server}
 use Rattle.h2_exchange.specs.Blocks.{Block, completed, block_with, open_block}
 use Rattle.h2_exchange.specs.Content.{Outcome, stream_error, outcome_at, is_malformed}
@@ -39,15 +40,15 @@ order_more : (es now later : List Event) → AreInOrder es now → AreInOrder (e
 order_more es [] later h k = subst (λ (l : List Event). AreInOrder l later) (append-nil es) k
 order_more es (e ∷ now) later h k = (h.0, order_more (es ++ e ∷ []) now later h.1 (subst (λ (l : List Event). AreInOrder l later) (sym (append_assoc es (e ∷ []) now)) k))
 
-same_sent : (g h : Frame) (x y : List Step) → Sent g ∷ x ≡ Sent h ∷ y → g ≡ h
+pub same_sent : (g h : Frame) (x y : List Step) → Sent g ∷ x ≡ Sent h ∷ y → g ≡ h
 same_sent g h x y e = cc
 
-same_behind : (g h : Step) (x y : List Step) → g ∷ x ≡ h ∷ y → x ≡ y
+pub same_behind : (g h : Step) (x y : List Step) → g ∷ x ≡ h ∷ y → x ≡ y
 same_behind g h x y e = cc
 
 -- ---- a sent frame
 
-rst_sent : (past : List Step) (g : Frame) (k : ℕ) → is_rst_stream g ≡ true → stream_of g ≡ k → is_over (past ++ Sent g ∷ []) k ≡ true
+pub rst_sent : (past : List Step) (g : Frame) (k : ℕ) → is_rst_stream g ≡ true → stream_of g ≡ k → is_over (past ++ Sent g ∷ []) k ≡ true
 rst_sent past g k r s =
     first_true (is_reset (past ++ Sent g ∷ []) k) (is_ended_by (received (past ++ Sent g ∷ [])) k && is_ended_by (sent (past ++ Sent g ∷ [])) k)
     (second_true (has_rst_stream (received (past ++ Sent g ∷ [])) k) (has_rst_stream (sent (past ++ Sent g ∷ [])) k)
@@ -74,34 +75,34 @@ stands_sent past g x es old = record {
 module _ (limits : H2Limits) (heads : List Outcome) where
   -- ---- a received frame
 
-  block_sound : (past : List Step) (f : Frame) → stop_at Server limits heads past (Received f) ≡ None → breaks_block_on (option_map (λ d. d.stream) (open_block (received past))) f ≡ false
-  block_sound past f e =
-      let stop = none_of (frame_stop Server limits heads past f) (if has_many_resets Server limits heads (past ++ Received f ∷ []) then Some (Calm Resets) else None) e in
-      let mapped = none_of (option_map (λ why. Error why (place_behind Server past)) (frame_error Server past f)) (option_or (block_stop (block_with (open_block (received past)) f)) (content_stop limits (place_behind Server past) (outcome_at heads past f))) stop.0 in
-      let none = map_none (λ why. Error why (place_behind Server past)) (frame_error Server past f) mapped.0 in
-      let shape = none_of (shape_error Server (breaks_start past f) (option_map (λ d. d.stream) (open_block (received past))) (highest (of_client Server past)) f)
-      (option_or (value_error Server f) (first_broken ((exceeds_connection past f, code.FLOW_CONTROL_ERROR) ∷ (overfills_connection past f, code.FLOW_CONTROL_ERROR) ∷ (raises_streams Server past f, code.FLOW_CONTROL_ERROR) ∷ []))) none in
+  pub block_sound : (role : Role) (past : List Step) (f : Frame) → stop_at role limits heads past (Received f) ≡ None → breaks_block_on (option_map (λ d. d.stream) (open_block (received past))) f ≡ false
+  block_sound role past f e =
+      let stop = none_of (frame_stop role limits heads past f) (if has_many_resets role limits heads (past ++ Received f ∷ []) then Some (Calm Resets) else None) e in
+      let mapped = none_of (option_map (λ why. Error why (place_behind role past)) (frame_error role past f)) (option_or (block_stop (block_with (open_block (received past)) f)) (content_stop limits (place_behind role past) (outcome_at heads past f))) stop.0 in
+      let none = map_none (λ why. Error why (place_behind role past)) (frame_error role past f) mapped.0 in
+      let shape = none_of (shape_error role (breaks_start past f) (option_map (λ d. d.stream) (open_block (received past))) (highest (of_client role past)) f)
+      (option_or (value_error role f) (first_broken ((exceeds_connection past f, code.FLOW_CONTROL_ERROR) ∷ (overfills_connection past f, code.FLOW_CONTROL_ERROR) ∷ (raises_streams role past f, code.FLOW_CONTROL_ERROR) ∷ []))) none in
       third (breaks_start past f) (is_push_promise f) (breaks_block_on (option_map (λ d. d.stream) (open_block (received past))) f) code.PROTOCOL_ERROR code.PROTOCOL_ERROR code.PROTOCOL_ERROR
-      ((breaks_number Server (highest (of_client Server past)) f, code.PROTOCOL_ERROR) ∷ (breaks_length (highest (of_client Server past)) f, code.FRAME_SIZE_ERROR) ∷ (breaks_padding f, code.PROTOCOL_ERROR) ∷ []) shape.0
+      ((breaks_number role (highest (of_client role past)) f, code.PROTOCOL_ERROR) ∷ (breaks_length (highest (of_client role past)) f, code.FRAME_SIZE_ERROR) ∷ (breaks_padding f, code.PROTOCOL_ERROR) ∷ []) shape.0
 
   -- a stream error is one of a stream that is live, or begun by the frame
-  error_live : (past : List Step) (f : Frame) (why : ErrorCode) → stop_at Server limits heads past (Received f) ≡ None → stream_error Server limits heads past f ≡ Some why → is_live_at Server past f (stream_of f) ≡ true
-  error_live past f why clear e = by (is_live Server past (stream_of f)) refl e
+  pub error_live : (role : Role) (past : List Step) (f : Frame) (why : ErrorCode) → stop_at role limits heads past (Received f) ≡ None → stream_error role limits heads past f ≡ Some why → is_live_at role past f (stream_of f) ≡ true
+  error_live role past f why clear e = by (is_live role past (stream_of f)) refl e
     where
-      in_block : (o : Option Block) → completed (received past) f ≡ o → completed_error Server limits past f (is_malformed Server past f (outcome_at heads past f)) o ≡ Some why → is_live_at Server past f (stream_of f) ≡ true
+      in_block : (o : Option Block) → completed (received past) f ≡ o → completed_error role limits past f (is_malformed role past f (outcome_at heads past f)) o ≡ Some why → is_live_at role past f (stream_of f) ≡ true
       in_block None is h = absurd cc
-      in_block (Some b) is h = live_block (is_live_at Server past f b.stream) refl h
+      in_block (Some b) is h = live_block (is_live_at role past f b.stream) refl h
         where
-          live_block : (t : Bool) → is_live_at Server past f b.stream ≡ t → (if t then block_error Server limits past b (is_malformed Server past f (outcome_at heads past f)) else None) ≡ Some why → is_live_at Server past f (stream_of f) ≡ true
-          live_block true live k = subst (λ (i : ℕ). is_live_at Server past f i ≡ true) (completed_stream (open_block (received past)) f b (block_sound past f clear) is) live
+          live_block : (t : Bool) → is_live_at role past f b.stream ≡ t → (if t then block_error role limits past b (is_malformed role past f (outcome_at heads past f)) else None) ≡ Some why → is_live_at role past f (stream_of f) ≡ true
+          live_block true live k = subst (λ (i : ℕ). is_live_at role past f i ≡ true) (completed_stream (open_block (received past)) f b (block_sound role past f clear) is) live
           live_block false live k = absurd cc
 
-      by : (t : Bool) → is_live Server past (stream_of f) ≡ t → option_or (if t then live_error limits past f else None) (completed_error Server limits past f (is_malformed Server past f (outcome_at heads past f)) (completed (received past) f)) ≡ Some why → is_live_at Server past f (stream_of f) ≡ true
-      by true live h = first_true (is_live Server past (stream_of f)) (begins Server (stream_of f) past (Received f)) live
+      by : (t : Bool) → is_live role past (stream_of f) ≡ t → option_or (if t then live_error limits past f else None) (completed_error role limits past f (is_malformed role past f (outcome_at heads past f)) (completed (received past) f)) ≡ Some why → is_live_at role past f (stream_of f) ≡ true
+      by true live h = first_true (is_live role past (stream_of f)) (begins role (stream_of f) past (Received f)) live
       by false live h = in_block (completed (received past) f) refl h
 
   module _ (whole : List Step) (answered : ResetsErrors Server limits heads whole) where
-    reset_next : (past : List Step) (f : Frame) (x : List Step) (why : ErrorCode) → whole ≡ past ++ Received f ∷ x → stop_of Server limits heads (past ++ Received f ∷ []) ≡ None → stream_error Server limits heads past f ≡ Some why → ResetNext (stream_of f) x
+    pub reset_next : (past : List Step) (f : Frame) (x : List Step) (why : ErrorCode) → whole ≡ past ++ Received f ∷ x → stop_of Server limits heads (past ++ Received f ∷ []) ≡ None → stream_error Server limits heads past f ≡ Some why → ResetNext (stream_of f) x
     reset_next past f x why e clear is =
         let r = answered past x f why e clear is in
         let small : stream_of f < 2 ^ 31 = (body_of f).stream_in_range in
@@ -114,7 +115,7 @@ module _ (limits : H2Limits) (heads : List Outcome) where
         by : (o : Option ErrorCode) → stream_error Server limits heads past f ≡ o → Good limits heads past f x es old (events_by (sound_events Server heads past f) (stream_of f) o)
         by None is = sound_good limits heads past f x es old is
         by (Some why) is =
-            let live = error_live past f why clear is in
+            let live = error_live Server past f why clear is in
             one limits heads past f x es old (Reset (stream_of f) why) (reset_admits limits heads past f x es old (stream_of f) why (at_alive past f (stream_of f) live) (
               at_begun past f (stream_of f) live,
               inr (reset_next past f x why e (events_go_on Server limits heads past (Received f) going clear).0 is),
@@ -144,7 +145,11 @@ module _ (limits : H2Limits) (heads : List Outcome) where
         by (Some stop) is go = tt
         by None is go = step past x es s e going is old (go is)
 
+-- the events of an exchange come in order
+pub events_come_in_order : (limits : H2Limits) (heads : List Outcome) (x : List Step) → ResetsErrors Server limits heads x → AreInOrder [] (events Server limits heads x)
+events_come_in_order limits heads x answered =
+    walk limits heads x answered [] x [] refl refl (record { heads = λ k t. absurd cc; sides = λ k t. absurd cc; resets = λ k t. absurd cc })
+
 pub calls_are_in_place : {M E : Type 0} → CallsAreInPlace M E
 calls_are_in_place limits heads x method_of compressed too_long truncated answered =
-    in_place method_of compressed too_long truncated (events Server limits heads x)
-    (walk limits heads x answered [] x [] refl refl (record { heads = λ k t. absurd cc; sides = λ k t. absurd cc; resets = λ k t. absurd cc }))
+    in_place method_of compressed too_long truncated (events Server limits heads x) (events_come_in_order limits heads x answered)
