@@ -1,36 +1,33 @@
 -- What Modify calls are owed, over all actions.
-use Rattle.std.proofs.Common.{◌≡◌, ◌⊎◌, ℕ, ◌==◌, ◌≤◌, ◌+◌, Bool, true, false, ◌||◌, ◌&&◌, take, length, List, [], ◌∷◌, ◌++◌, Option, Some, None, refl, sym, ap, ◌∙◌, subst, inl, inr, append-nil, append_assoc, eq-eqb, arith, if◌then◌else◌}
-use Rattle.std.specs.Prelude.{not, is_some, map, filter}
+use Rattle.std.proofs.Common.{◌≡◌, ◌⊎◌, ℕ, ◌==◌, ◌≤◌, Bool, true, false, ◌||◌, take, length, List, [], ◌∷◌, ◌++◌, Option, Some, None, refl, sym, ap, ◌∙◌, subst, inl, inr, append-nil, append_assoc, eq-eqb, arith, if◌then◌else◌}
+use Rattle.std.specs.Prelude.{not, is_some, map}
 use Rattle.std.specs.List.{list_any, flat_map, cons_option}
-use Rattle.std.proofs.lemmas.Bool.{or_left, or_right, or_parts, and_parts, both_ways, eqb-true}
+use Rattle.std.proofs.lemmas.Bool.{or_left, or_right, or_parts, and_parts, eqb-true}
 use Rattle.std.proofs.lemmas.List.{map-append}
 use Rattle.std.proofs.lemmas.List.Concat.{flat_map-append}
 use Rattle.std.proofs.lemmas.List.Elements.{filter-append}
-use Rattle.std.proofs.lemmas.List.Folds.{list_any-append}
 use Rattle.grpc_heads.specs.CallEnd.{CallEnd}
 use Rattle.grpc_heads.specs.declared.head.Method.{Method}
 use Rattle.grpc_heads.specs.declared.head.Method.TheVariants.{Modify, Get, Flush}
-use Rattle.h2_exchange.specs.Calls.{Call, Begun, Request, Finished, Dropped, Declined, ends_asking, is_begun_call, is_in_place, stream_in, ends_call as drops_call}
+use Rattle.h2_exchange.specs.Calls.{Call, Begun, Request, Finished, Dropped, Declined, ends_asking, is_begun_call, stream_in, ends_call as drops_call}
 use Rattle.h2_exchange.specs.StreamParts.{Item, Message, Finish}
-use Rattle.table_model.specs.declared.command.Command.{Command}
 use Rattle.table_model.specs.declared.command.Command.TheVariants as command
 use Rattle.table_model.specs.declared.reply.Reply.{Reply}
-use Rattle.table_model.specs.declared.reply.Reply.TheVariants as reply
 use Rattle.table_model.specs.Event.{Event}
 use Rattle.call_answers.specs.declared.orders.Setting.{Setting}
-use Rattle.call_orders.specs.Owed.{end_items, has_end, is_leave, items_for}
-use Rattle.call_orders.specs.Calls.{CallState, NotBegun, Modifies, Receives, Responds, Over, Standing, Action, Handles, Collects, Continues, cut_of, stream_of, events_of, calls_of, without_leaves, begun_by_reply, begun_state, commands_for, handled, next_state, owing, refusal_for, waiting_in, after, answers, standing}
+use Rattle.call_orders.specs.Owed.{is_leave, items_for}
+use Rattle.call_orders.specs.Calls.{CallState, NotBegun, Modifies, Receives, Responds, Over, Standing, Action, Handles, Collects, Continues, cut_of, stream_of, events_of, calls_of, without_leaves, begun_by_reply, begun_state, commands_for, handled, next_state, owing, waiting_in, after, standing}
 use Rattle.call_orders.specs.Actions.{AreActions, IsAction, IsHandled, Leaves, session_in, calls_in, events_in}
-use Rattle.call_orders.specs.Orders.{actions_on, begun_by, begun_in, events_on, left_in}
+use Rattle.call_orders.specs.Orders.{actions_on, begun_in, events_on}
 use Rattle.call_orders.specs.Laws.{ModifyIsAnswered, call_ends, ends_by, ends_in, entry_ends, is_cut, is_finish_of, is_stray, modify_ends, responses_to}
 use Rattle.call_orders.proofs.Answering.{OwesAction, Responses, dropped_without, goes_without, is_drop, owes_action}
 use Rattle.call_orders.proofs.Counts.{events_here, events_other, on_here, on_other, standing_here, standing_other}
 use Rattle.call_orders.proofs.Doing.{in_part, none_done}
-use Rattle.call_orders.proofs.Following.{AllHold, proper}
-use Rattle.call_orders.proofs.Holding.{Holds, HoldsNone, HoldsOpen, HoldsOver, HoldsUnbegun, Placed, any_more, begun_here, join, not_late, placed_parts, unbegun_begun, without_leave}
+use Rattle.call_orders.proofs.Following.{proper}
+use Rattle.call_orders.proofs.Holding.{Holds, HoldsUnbegun, Placed, any_more, begun_here, join, not_late, placed_parts, unbegun_begun, without_leave}
 use Rattle.call_orders.proofs.Idle.{Idle, idles, no_last, over_stays}
 use Rattle.call_orders.proofs.Open.{asks_late, is_finish, is_good, open_after, open_with, state_behind}
-use Rattle.call_orders.proofs.Standing.{BegunBy, Proper, SaidBy, actions_parts, any_over, begun_only, began, began_none, by_reply, holds, not_heard, plain_of, proper_earlier, said_by, unbegun_by}
+use Rattle.call_orders.proofs.Standing.{BegunBy, Proper, SaidBy, actions_parts, begun_only, began, began_none, by_reply, holds, not_heard, plain_of, proper_earlier, said_by, unbegun_by}
 
 abbrev pub Work : List Action → ℕ → List Event
 Work actions id = without_leaves (events_on actions id)

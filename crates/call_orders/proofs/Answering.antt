@@ -1,20 +1,17 @@
 -- What a Modify call is owed for an action.
-use Rattle.std.proofs.Common.{◌≡◌, ◌⊎◌, ℕ, pos, ◌==◌, ◌≤◌, ◌+◌, Bool, true, false, ◌||◌, ◌&&◌, take, length, List, [], ◌∷◌, ◌++◌, Option, Some, None, refl, sym, ap, ◌∙◌, subst, inl, inr, append-nil, append_assoc, arith, if◌then◌else◌}
-use Rattle.std.specs.Prelude.{not, is_some, map, filter, option_to_list}
+use Rattle.std.proofs.Common.{◌≡◌, ◌⊎◌, ℕ, ◌≤◌, Bool, true, false, ◌||◌, ◌&&◌, length, List, [], ◌∷◌, ◌++◌, Option, Some, None, refl, sym, ap, ◌∙◌, subst, inl, inr, append-nil, append_assoc, arith, if◌then◌else◌}
+use Rattle.std.specs.Prelude.{is_some, map, option_to_list}
 use Rattle.std.specs.List.{list_any, flat_map}
 use Rattle.std.specs.Option.{option_map}
-use Rattle.std.proofs.lemmas.Bool.{or_left, or_right, or_parts, both_ways}
+use Rattle.std.proofs.lemmas.Bool.{or_parts, both_ways}
 use Rattle.std.proofs.lemmas.List.{map-append}
-use Rattle.std.proofs.lemmas.List.Concat.{flat_map-append}
-use Rattle.std.proofs.lemmas.List.Elements.{filter-append}
-use Rattle.std.proofs.lemmas.List.Folds.{list_any-append}
 use Rattle.proto_schema.specs.declared.schema.MessageKind.TheVariants as message
 use Rattle.proto_schema.specs.declared.legal.MessageFault.{MessageFault}
 use Rattle.proto_schema.specs.Legal.{first_fault}
 use Rattle.grpc_heads.specs.GrpcStatus.{GrpcStatus}
 use Rattle.grpc_heads.specs.CallEnd.{CallEnd, Status}
 use Rattle.grpc_heads.specs.declared.head.Method.{Method}
-use Rattle.h2_exchange.specs.Calls.{Call, Begun, Request, Finished, Dropped, Declined, ends_asking}
+use Rattle.h2_exchange.specs.Calls.{Call, Begun, Request, Finished, Dropped, Declined}
 use Rattle.h2_exchange.specs.StreamParts.{Item, Message, Finish}
 use Rattle.table_model.specs.declared.command.Command.{Command}
 use Rattle.table_model.specs.declared.command.Command.TheVariants as command
@@ -23,13 +20,12 @@ use Rattle.table_model.specs.declared.reply.Reply.TheVariants as reply
 use Rattle.table_model.specs.Event.{Event}
 use Rattle.call_answers.specs.Ends.{status_by}
 use Rattle.call_answers.specs.declared.orders.Setting.{Setting}
-use Rattle.call_orders.specs.Requests.{bad_message}
-use Rattle.call_orders.specs.Owed.{end_items, ends_call, has_end, items_by, items_for, is_leave, is_operate, ok}
-use Rattle.call_orders.specs.Calls.{CallState, NotBegun, Modifies, Receives, Responds, Over, Standing, Action, Handles, Collects, Continues, cut_of, stream_of, events_of, calls_of, without_leaves, commands_for, refusal_for, good_end, is_clear, after, standing}
-use Rattle.call_orders.specs.Actions.{AreActions, AreDone, AreDoneUnless, IsAction, calls_in, events_in}
-use Rattle.call_orders.specs.Orders.{actions_on, begun_in, events_on}
-use Rattle.call_orders.specs.Laws.{call_ends, ends_by, ends_in, entry_ends, is_bad, is_finish_of, is_last_collect, refuses, responses_to, session_of}
-use Rattle.call_orders.proofs.Closing.{DoneOf, done_of}
+use Rattle.call_requests.specs.Asked.{bad_message}
+use Rattle.call_orders.specs.Owed.{end_items, ends_call, has_end, items_by, items_for, is_operate, ok}
+use Rattle.call_orders.specs.Calls.{Modifies, Action, Handles, Collects, Continues, cut_of, stream_of, events_of, without_leaves, refusal_for, good_end, is_clear, after}
+use Rattle.call_orders.specs.Actions.{AreDone, AreDoneUnless, IsAction, calls_in}
+use Rattle.call_orders.specs.Laws.{call_ends, ends_by, ends_in, entry_ends, is_finish_of, refuses, responses_to, session_of}
+use Rattle.call_orders.proofs.Closing.{done_of}
 use Rattle.call_orders.proofs.Doing.{Bears, Each}
 use Rattle.call_orders.proofs.Leaving.{and_split, finished_work, refused_work}
 use Rattle.call_orders.proofs.Open.{asks_late, is_good, open_with, orders_own}

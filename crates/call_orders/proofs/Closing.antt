@@ -1,6 +1,6 @@
 -- The Leave behind a reply that ends a call, and how often sessions leave.
-use Rattle.std.proofs.Common.{◌≡◌, ◌≢◌, ◌⊎◌, ℕ, ◌==◌, ◌≤◌, ◌+◌, Bool, true, false, ◌||◌, ◌&&◌, filter, List, [], ◌∷◌, ◌++◌, Option, Some, None, refl, sym, ap, ◌∙◌, subst, inl, inr, append-nil, append_assoc, eq-eqb, arith, if◌then◌else◌}
-use Rattle.std.specs.Prelude.{not, map, filter_map}
+use Rattle.std.proofs.Common.{◌≡◌, ◌≢◌, ◌⊎◌, ℕ, ◌==◌, ◌≤◌, ◌+◌, Bool, true, false, ◌||◌, filter, List, [], ◌∷◌, ◌++◌, Option, Some, None, refl, sym, ap, ◌∙◌, subst, inl, inr, append_assoc, arith, if◌then◌else◌}
+use Rattle.std.specs.Prelude.{not, map}
 use Rattle.std.specs.List.{list_any, cons_option}
 use Rattle.std.proofs.lemmas.Bool.{or_left, or_right, or_parts, both_ways, eqb-true}
 use Rattle.grpc_heads.specs.CallEnd.{CallEnd}
@@ -14,17 +14,17 @@ use Rattle.table_model.specs.Event.{Event}
 use Rattle.table_model.specs.Sessions.{leaving_session}
 use Rattle.call_answers.specs.declared.orders.Setting.{Setting}
 use Rattle.call_orders.specs.Owed.{ends_call}
-use Rattle.call_orders.specs.Calls.{CallState, NotBegun, Modifies, Receives, Responds, Over, Standing, Action, Handles, Collects, Continues, cut_of, stream_of, events_of, calls_of, without_leaves, collected, commands_for, cut_by, after, standing}
-use Rattle.call_orders.specs.Actions.{AreActions, AreDone, AreDoneUnless, AreDoneInPart, IsAction, Leaves, leave, session_in, timeless, calls_in, events_in}
-use Rattle.call_orders.specs.Orders.{AllLeave, AreOrders, ConnectionEnd, GoesOn, AllHandled, Halted, NoMemory, Spent, IsOver, IsSpent, begun_by, begun_in, has, left_by, left_in, staying}
-use Rattle.call_orders.specs.Laws.{AreUsual, EndsLeave, LeaveIsNext, LeavesAreOnce, count, ends_by, is_finish_of, is_stray, refuses_in, session_of}
-use Rattle.call_orders.proofs.Counts.{count_append, counted, events_more, found, of_all, of_stream, one_stream, only_stream, two_streams}
-use Rattle.call_orders.proofs.Doing.{Bears, Each, begun_nothing, each_first, each_none, each_one, in_part, left_append, left_nothing, stray_parts}
-use Rattle.call_orders.proofs.Following.{ActionAt, AllHold, left_less, next_placed, proper}
-use Rattle.call_orders.proofs.Holding.{Holds, HoldsOpen, Placed, not_late, placed_parts}
-use Rattle.call_orders.proofs.Leaving.{AtBehind, Ends, Next, behind_none, behind_split, ends_done, ends_none, leaving, next_none}
+use Rattle.call_orders.specs.Calls.{CallState, NotBegun, Modifies, Receives, Responds, Over, Standing, Action, Handles, Collects, Continues, stream_of, events_of, calls_of, without_leaves, collected, commands_for, cut_by, after, standing}
+use Rattle.call_orders.specs.Actions.{AreActions, AreDone, AreDoneUnless, IsAction, Leaves, leave, timeless, calls_in, events_in}
+use Rattle.call_orders.specs.Orders.{AllLeave, ConnectionEnd, GoesOn, AllHandled, Halted, NoMemory, Spent, IsOver, begun_by, begun_in, has, left_by, left_in, staying}
+use Rattle.call_orders.specs.Laws.{EndsLeave, LeavesAreOnce, count, ends_by, is_stray, session_of}
+use Rattle.call_orders.proofs.Counts.{counted, found, of_all, of_stream, one_stream, only_stream, two_streams}
+use Rattle.call_orders.proofs.Doing.{Bears, Each, begun_nothing, each_first, in_part, left_nothing, stray_parts}
+use Rattle.call_orders.proofs.Following.{AllHold, left_less, next_placed, proper}
+use Rattle.call_orders.proofs.Holding.{Holds, Placed, not_late, placed_parts}
+use Rattle.call_orders.proofs.Leaving.{AtBehind, Ends, Next, behind_none, behind_split, ends_done, ends_none, next_none}
 use Rattle.call_orders.proofs.Open.{Parted, asks_late, is_finish, is_good, open_after, open_with, orders_own, parted, state_behind}
-use Rattle.call_orders.proofs.Ordered.{MayBe, entries_of, last_of}
+use Rattle.call_orders.proofs.Ordered.{entries_of, last_of}
 use Rattle.call_orders.proofs.Owning.{leaves_none, none_of}
 use Rattle.call_orders.proofs.Standing.{Proper, actions_parts, holds, proper_earlier}
 

@@ -1,14 +1,12 @@
 -- How often sessions are begun and left, on a stream and on the connection.
-use Rattle.std.proofs.Common.{◌≡◌, ◌⊎◌, ℕ, ◌+◌, ◌==◌, ◌≤◌, ◌<◌, Bool, true, false, ◌||◌, filter, List, [], ◌∷◌, ◌++◌, Option, Some, None, refl, sym, ap, ◌∙◌, subst, eq-eqb, inl, inr, arith, if◌then◌else◌}
+use Rattle.std.proofs.Common.{◌≡◌, ◌⊎◌, ℕ, ◌+◌, ◌==◌, ◌≤◌, ◌<◌, Bool, true, false, List, [], ◌∷◌, ◌++◌, Option, refl, sym, ap, ◌∙◌, eq-eqb, inl, inr, arith, if◌then◌else◌}
 use Rattle.std.specs.Prelude.{filter_map}
-use Rattle.std.specs.List.{list_any}
 use Rattle.std.proofs.lemmas.Bool.{eqb-true, cases_lt}
 use Rattle.std.proofs.lemmas.List.Elements.{filter_map-append}
-use Rattle.std.proofs.lemmas.List.Folds.{list_any-append}
 use Rattle.table_model.specs.Event.{Event}
 use Rattle.call_answers.specs.declared.orders.Setting.{Setting}
-use Rattle.call_orders.specs.Calls.{Action, Standing, stream_of, events_of, after, standing}
-use Rattle.call_orders.specs.Actions.{calls_in, events_in}
+use Rattle.call_orders.specs.Calls.{Action, stream_of, events_of, after, standing}
+use Rattle.call_orders.specs.Actions.{events_in}
 use Rattle.call_orders.specs.Orders.{actions_on, events_on}
 use Rattle.call_orders.specs.Laws.{count}
 

@@ -1,22 +1,20 @@
 -- Calls that are ended for want of memory.
 use Rattle.std.proofs.Common.{◌≡◌, ◌⊎◌, ℕ, ◌==◌, ◌≤◌, ◌+◌, Bool, true, false, take, length, List, [], ◌∷◌, ◌++◌, Option, Some, None, refl, sym, ap, ◌∙◌, subst, inl, inr, append-nil, eq-eqb, arith, if◌then◌else◌}
 use Rattle.std.specs.Prelude.{map}
-use Rattle.std.specs.List.{list_any, flat_map}
+use Rattle.std.specs.List.{flat_map}
 use Rattle.std.specs.Option.{option_map_or}
 use Rattle.std.proofs.lemmas.Bool.{eqb-true}
 use Rattle.std.proofs.lemmas.List.{length-take-le, map-append, take-take, take_at}
 use Rattle.grpc_heads.specs.CallEnd.{CallEnd, Status}
-use Rattle.grpc_heads.specs.declared.head.Method.{Method}
-use Rattle.h2_exchange.specs.Calls.{Call}
 use Rattle.h2_exchange.specs.StreamParts.{Item, Finish}
 use Rattle.table_model.specs.Event.{Event}
 use Rattle.call_answers.specs.declared.orders.Setting.{Setting}
-use Rattle.call_orders.specs.Owed.{has_end, items_for, want_of_memory}
-use Rattle.call_orders.specs.Calls.{CallState, Over, Standing, Action, Handles, Collects, Continues, collected, continued, cut_of, handled, stream_of, without_leaves, waiting_in, after, answers, standing}
+use Rattle.call_orders.specs.Owed.{items_for, want_of_memory}
+use Rattle.call_orders.specs.Calls.{CallState, Over, Standing, Action, Handles, Collects, Continues, collected, continued, cut_of, handled, stream_of, without_leaves, waiting_in, after, standing}
 use Rattle.call_orders.specs.Actions.{AreActions, IsAction, MayBeMade}
 use Rattle.call_orders.specs.Orders.{Cut, cuts}
 use Rattle.call_orders.specs.Laws.{CutsAreFinal, count}
-use Rattle.call_orders.proofs.Counts.{count_append, count_self, standing_here, standing_other}
+use Rattle.call_orders.proofs.Counts.{count_append, standing_here, standing_other}
 use Rattle.call_orders.proofs.Doing.{in_part, none_done}
 use Rattle.call_orders.proofs.Following.{at_split}
 use Rattle.call_orders.proofs.Idle.{over_stays}

@@ -1,36 +1,28 @@
 -- What the entries of an action are: commands that were asked for, one after another, and a Leave at most.
-use Rattle.std.proofs.Common.{◌≡◌, ◌⊎◌, ℕ, ℤ, pos, Bool, true, false, ◌||◌, ◌&&◌, filter, map, List, [], ◌∷◌, ◌++◌, Option, Some, None, refl, sym, ap, ◌∙◌, subst, inl, inr, append-nil, append_assoc}
-use Rattle.std.specs.Prelude.{filter_map, not, Result, Ok, Err, if◌then◌else◌}
+use Rattle.std.proofs.Common.{◌≡◌, ℕ, ℤ, Bool, true, false, ◌||◌, map, List, [], ◌∷◌, ◌++◌, Option, Some, None, refl, sym, ap, ◌∙◌, subst, append-nil}
+use Rattle.std.specs.Prelude.{not, if◌then◌else◌}
 use Rattle.std.specs.List.{list_any, flat_map, cons_option}
 use Rattle.std.specs.Option.{option_map_or}
-use Rattle.std.proofs.lemmas.Bool.{or_parts, or_from, not_from_false}
+use Rattle.std.proofs.lemmas.Bool.{or_parts}
 use Rattle.std.proofs.lemmas.List.Folds.{list_any-append}
 use Rattle.std.proofs.lemmas.List.Elements.{filter_map-append}
-use Rattle.proto_schema.specs.declared.schema.MessageKind.TheVariants as message
-use Rattle.proto_schema.specs.declared.legal.MessageFault.{MessageFault}
-use Rattle.proto_schema.specs.Legal.{first_fault}
-use Rattle.gribi_messages.specs.declared.asks.FlushAsk.{FlushAsk}
-use Rattle.gribi_messages.specs.declared.asks.FlushAsk.TheVariants as flush
-use Rattle.grpc_heads.specs.GrpcStatus.{GrpcStatus}
 use Rattle.grpc_heads.specs.CallEnd.{CallEnd}
 use Rattle.grpc_heads.specs.declared.head.Method.{Method}
 use Rattle.h2_exchange.specs.Calls.{Call}
 use Rattle.h2_exchange.specs.StreamParts.{Item}
 use Rattle.table_model.specs.declared.command.Command.{Command}
 use Rattle.table_model.specs.declared.command.Command.TheVariants as command
-use Rattle.table_model.specs.declared.command.KindAsk.{KindAsk}
-use Rattle.table_model.specs.declared.command.Which.{Which}
 use Rattle.table_model.specs.declared.command.Operation.{Operation}
 use Rattle.table_model.specs.declared.params.AskedParams.{AskedParams}
 use Rattle.table_model.specs.declared.reply.Reply.{Reply}
 use Rattle.table_model.specs.declared.reply.Reply.TheVariants as reply
-use Rattle.table_model.specs.Event.{Event, is_began}
+use Rattle.table_model.specs.Event.{Event}
 use Rattle.call_answers.specs.Orders.{commands_of}
 use Rattle.call_answers.specs.declared.orders.Orders.{Orders}
 use Rattle.call_answers.specs.declared.orders.Setting.{Setting}
 use Rattle.call_orders.specs.Owed.{is_leave, items_for, ends_call, has_end, is_end}
 use Rattle.call_orders.specs.Calls.{Standing, without_leaves}
-use Rattle.call_orders.specs.Actions.{timeless, AreDone, AreDoneUnless, AreDoneInPart, AreDoneOrCut, leave}
+use Rattle.call_orders.specs.Actions.{timeless, AreDone, AreDoneUnless, AreDoneInPart, AreDoneOrCut}
 use Rattle.table_model.specs.Sessions.{leaving_session}
 use Rattle.call_orders.specs.Orders.{begun_by, left_by, begun_in, left_in}
 use Rattle.call_orders.specs.Laws.{session_of, is_begin, is_stray}

@@ -1,20 +1,20 @@
 -- What follows of the orders of a connection: what is usual of its actions, and which calls are open.
-use Rattle.std.proofs.Common.{◌≡◌, ◌⊎◌, ℕ, ◌==◌, ◌≤◌, ◌+◌, Bool, true, false, ◌||◌, ◌&&◌, List, [], ◌∷◌, ◌++◌, Option, Some, None, refl, sym, ap, ◌∙◌, subst, inl, inr, append-nil, append_assoc, eq-eqb, arith, if◌then◌else◌}
-use Rattle.std.specs.Prelude.{not, filter_map, is_some}
+use Rattle.std.proofs.Common.{◌≡◌, ℕ, ◌==◌, ◌≤◌, Bool, true, false, List, [], ◌∷◌, ◌++◌, refl, sym, ap, ◌∙◌, subst, arith}
+use Rattle.std.specs.Prelude.{not}
 use Rattle.std.specs.List.{list_any}
-use Rattle.std.proofs.lemmas.Bool.{or_parts, or_from}
+use Rattle.std.proofs.lemmas.Bool.{or_parts}
 use Rattle.grpc_heads.specs.CallEnd.{CallEnd}
 use Rattle.grpc_heads.specs.declared.head.Method.{Method}
-use Rattle.h2_exchange.specs.Calls.{Call, Request, is_in_place, are_in_place}
+use Rattle.h2_exchange.specs.Calls.{Call, is_in_place, are_in_place}
 use Rattle.h2_exchange.specs.Exchange.{some_step}
 use Rattle.h2_exchange.proofs.Looking.{some_more}
 use Rattle.table_model.specs.Event.{Event}
 use Rattle.call_answers.specs.declared.orders.Setting.{Setting}
-use Rattle.call_orders.specs.Calls.{CallState, NotBegun, Modifies, Receives, Responds, Over, Standing, Action, Handles, Collects, Continues, stream_of, events_of, calls_of, standing}
+use Rattle.call_orders.specs.Calls.{CallState, NotBegun, Modifies, Receives, Responds, Over, Action, Handles, Collects, Continues, stream_of, calls_of, standing}
 use Rattle.call_orders.specs.Actions.{AreActions, IsAction, calls_in, events_in}
-use Rattle.call_orders.specs.Orders.{AreOrders, ConnectionEnd, actions_on, begun_by, begun_in, events_on, left_by, left_in}
+use Rattle.call_orders.specs.Orders.{AreOrders, ConnectionEnd, begun_by, begun_in, left_by, left_in}
 use Rattle.call_orders.specs.Laws.{AreUsual, IsOpen, count, is_finish_of, is_stray}
-use Rattle.call_orders.proofs.Counts.{count_self, counted, of_all, of_stream, one_stream, only_stream, two_streams}
+use Rattle.call_orders.proofs.Counts.{count_self, counted, of_stream, one_stream, only_stream, two_streams}
 use Rattle.call_orders.proofs.Doing.{stray_parts}
 use Rattle.call_orders.proofs.Holding.{ArePlaced, Holds, HoldsOpen, Placed, unbegun_begun, unbegun_left}
 use Rattle.call_orders.proofs.Standing.{Proper, actions_parts, holds, proper_earlier}

@@ -1,29 +1,23 @@
 -- What holds of the call on a stream, by where it stands.
-use Rattle.std.proofs.Common.{◌≡◌, ◌⊎◌, ℕ, ◌==◌, Bool, true, false, ◌||◌, ◌&&◌, List, [], ◌∷◌, ◌++◌, Option, Some, None, refl, sym, ap, ◌∙◌, subst, inl, inr, append-nil, if◌then◌else◌}
+use Rattle.std.proofs.Common.{◌≡◌, ℕ, ◌==◌, Bool, true, false, ◌||◌, List, [], ◌∷◌, ◌++◌, Some, None, refl, sym, ap, ◌∙◌, subst, append-nil}
 use Rattle.std.specs.Prelude.{not}
-use Rattle.std.specs.List.{list_any, flat_map, cons_option}
-use Rattle.std.specs.Option.{option_or}
+use Rattle.std.specs.List.{list_any}
 use Rattle.std.proofs.lemmas.Bool.{eqb-true, or_parts, or_from, and_parts, both_ways}
 use Rattle.std.proofs.lemmas.List.Folds.{list_any-append}
 use Rattle.grpc_heads.specs.CallEnd.{CallEnd}
 use Rattle.grpc_heads.specs.declared.head.Method.{Method}
-use Rattle.grpc_heads.specs.declared.head.Method.TheVariants.{Modify, Get, Flush}
 use Rattle.h2_exchange.specs.Calls.{Call, Begun, Request, Finished, Dropped, Declined, stream_in, is_begun_call, is_in_place, ends_asking}
-use Rattle.h2_exchange.specs.StreamParts.{Item, Finish}
-use Rattle.table_model.specs.declared.command.Command.{Command}
-use Rattle.table_model.specs.declared.command.Command.TheVariants as command
+use Rattle.h2_exchange.specs.StreamParts.{Item}
 use Rattle.table_model.specs.declared.reply.Reply.{Reply}
-use Rattle.table_model.specs.declared.reply.Reply.TheVariants as reply
 use Rattle.table_model.specs.Event.{Event}
 use Rattle.call_answers.specs.declared.orders.Setting.{Setting}
-use Rattle.call_orders.specs.Owed.{ends_call, has_end, items_for}
-use Rattle.call_orders.specs.Calls.{CallState, NotBegun, Modifies, Receives, Responds, Over, Standing, Action, Handles, Collects, Continues, stream_of, events_of, calls_of, without_leaves, begun_state, refusal_for, after, standing}
-use Rattle.call_orders.specs.Actions.{timeless, AreActions, AreDone, AreDoneUnless, AreDoneInPart, IsAction, IsHandled, Leaves, leave, calls_in, events_in}
-use Rattle.call_orders.specs.Orders.{actions_on, begun_by, begun_in, events_on, left_in}
+use Rattle.call_orders.specs.Calls.{CallState, NotBegun, Modifies, Receives, Responds, Over, Action, Handles, Collects, Continues, stream_of, events_of, calls_of, without_leaves, after}
+use Rattle.call_orders.specs.Actions.{IsAction, leave, calls_in, events_in}
+use Rattle.call_orders.specs.Orders.{actions_on, begun_in, events_on, left_in}
 use Rattle.call_orders.specs.Laws.{ends_by, is_finish_of, is_stray}
-use Rattle.call_orders.proofs.Counts.{events_here, events_other, events_more, on_here, on_other, standing_here, standing_other}
-use Rattle.call_orders.proofs.Doing.{Bears, each_one, begun_append, begun_nothing, left_append, left_nothing, stray_parts, in_part, none_done}
-use Rattle.call_orders.proofs.Idle.{Idle, Idles, at_state, idles, over_stays}
+use Rattle.call_orders.proofs.Counts.{events_here, events_other, on_here, on_other}
+use Rattle.call_orders.proofs.Doing.{Bears, each_one, begun_append, begun_nothing, left_append, left_nothing, stray_parts}
+use Rattle.call_orders.proofs.Idle.{Idle, at_state, idles, over_stays}
 use Rattle.call_orders.proofs.Open.{Parted, asks_late, is_finish, is_good, open_after, open_with, orders_own, parted, state_behind}
 
 -- ---- what is usual

@@ -1,36 +1,31 @@
 -- An action for a call without a session.
-use Rattle.std.proofs.Common.{◌≡◌, ◌⊎◌, ℕ, pos, Bool, true, false, ◌||◌, ◌&&◌, List, [], ◌∷◌, ◌++◌, Option, Some, None, refl, sym, ap, ◌∙◌, subst, inl, inr, append-nil}
-use Rattle.std.specs.Prelude.{Result, Ok, Err, codes, ◌==◌, if◌then◌else◌}
+use Rattle.std.proofs.Common.{◌≡◌, ℕ, pos, Bool, true, false, List, [], ◌∷◌, ◌++◌, Option, Some, None, refl, sym, ap, ◌∙◌, subst, append-nil}
+use Rattle.std.specs.Prelude.{if◌then◌else◌}
 use Rattle.std.specs.List.{list_any, flat_map}
-use Rattle.std.specs.Option.{option_or}
-use Rattle.proto_schema.specs.declared.schema.MessageKind.TheVariants as message
-use Rattle.proto_schema.specs.declared.legal.MessageFault.{MessageFault}
-use Rattle.proto_schema.specs.Legal.{first_fault}
-use Rattle.gribi_messages.specs.declared.asks.FlushAsk.{FlushAsk}
-use Rattle.gribi_messages.specs.declared.asks.FlushAsk.TheVariants as flush
+use Rattle.std.specs.Option.{option_map, option_or}
 use Rattle.gribi_messages.specs.GetAndFlush.{get_request, flush_request}
 use Rattle.grpc_heads.specs.GrpcStatus.{GrpcStatus}
 use Rattle.grpc_heads.specs.CallEnd.{CallEnd}
 use Rattle.grpc_heads.specs.declared.head.Method.{Method}
-use Rattle.grpc_heads.specs.declared.head.Method.TheVariants.{Modify, Get, Flush}
-use Rattle.h2_exchange.specs.Calls.{Call, Begun, Request, Finished, Dropped, Declined}
-use Rattle.h2_exchange.specs.StreamParts.{Item, Finish}
-use Rattle.table_model.specs.declared.command.Command.{Command}
+use Rattle.grpc_heads.specs.declared.head.Method.TheVariants.{Get, Flush}
+use Rattle.h2_exchange.specs.Calls.{Call, Finished, Dropped}
+use Rattle.h2_exchange.specs.StreamParts.{Item}
 use Rattle.table_model.specs.declared.command.Command.TheVariants as command
-use Rattle.table_model.specs.declared.command.FlushBy.TheVariants as by
+use Rattle.table_model.specs.declared.command.FlushBy.{FlushBy}
 use Rattle.table_model.specs.declared.command.KindAsk.{KindAsk}
 use Rattle.table_model.specs.declared.command.Which.{Which}
 use Rattle.table_model.specs.declared.reply.Reply.{Reply}
 use Rattle.table_model.specs.declared.reply.Reply.TheVariants as reply
 use Rattle.table_model.specs.Event.{Event}
 use Rattle.call_answers.specs.declared.orders.Setting.{Setting}
-use Rattle.call_orders.specs.Requests.{invalid, get_asked, flush_asked, select_of, select_kinds, flush_of, flush_by, kinds_of, which_of, unless_fault as asked_unless}
+use Rattle.call_requests.specs.Asked.{allowed_by, flush_message_refusal, get_message_refusal, kinds_of, which_asked}
+use Rattle.call_orders.specs.Requests.{get_asked, flush_asked, select_of, flush_of, unless_refused}
 use Rattle.call_orders.specs.Owed.{items_for, has_end}
 use Rattle.call_orders.specs.Calls.{CallState, NotBegun, Modifies, Receives, Responds, Over, Standing, Action, Handles, Collects, Continues, events_of, without_leaves, commands_for, command_of, asked_by, selected_state, selected_by_reply, refusal_for, next_items, next_state, waiting_behind, waiting_in, after}
-use Rattle.call_orders.specs.Actions.{IsAction, IsHandled, Leaves, session_in}
+use Rattle.call_orders.specs.Actions.{IsAction, Leaves, session_in}
 use Rattle.call_orders.specs.Orders.{begun_in, left_in}
 use Rattle.call_orders.specs.Laws.{is_stray}
-use Rattle.call_orders.proofs.Doing.{Each, Bears, bears_timeless, begun_nothing, each_none, each_one, each_part, in_part, left_nothing, none_done}
+use Rattle.call_orders.proofs.Doing.{Each, Bears, bears_timeless, begun_nothing, each_none, each_one, each_part, in_part, left_nothing}
 
 -- a call without a session, of which something was heard
 abbrev pub Idle : CallState → Type 0
@@ -52,40 +47,25 @@ at_state state its = record { state = state; items = its }
 
 -- ---- what a Get and a Flush ask
 
-plain_kinds : (w : Which) (o : Option KindAsk) → Each (Bears None) (command_of (select_kinds w o))
-plain_kinds w None = each_none (Bears None)
-plain_kinds w (Some k) = each_one (Bears None) (command.Select w k) (refl, refl)
+plain_select : (w : Option Which) (k : Option KindAsk) (refusal : Option GrpcStatus) → Each (Bears None) (command_of (unless_refused refusal (select_of w k)))
+plain_select w k (Some refusal) = each_none (Bears None)
+plain_select None k None = each_none (Bears None)
+plain_select (Some w) None None = each_none (Bears None)
+plain_select (Some w) (Some k) None = each_one (Bears None) (command.Select w k) (refl, refl)
 
-plain_select : (o : Option KindAsk) (r : Result Which GrpcStatus) → Each (Bears None) (command_of (select_of o r))
-plain_select o (Err refusal) = each_none (Bears None)
-plain_select o (Ok w) = plain_kinds w o
-
-plain_by : (w : Which) (o : Option FlushAsk) → Each (Bears None) (command_of (flush_by w o))
-plain_by w None = each_none (Bears None)
-plain_by w (Some flush.Override) = each_one (Bears None) _ (refl, refl)
-plain_by w (Some (flush.Id id)) = choose (id == 0)
-  where
-    choose : (b : Bool) → Each (Bears None) (command_of (if b then Err (invalid (codes "election id is zero")) else Ok (command.Flush (by.Id id) w (pos 0))))
-    choose true = each_none (Bears None)
-    choose false = each_one (Bears None) _ (refl, refl)
-
-plain_flush : (o : Option FlushAsk) (r : Result Which GrpcStatus) → Each (Bears None) (command_of (flush_of o r))
-plain_flush o (Err refusal) = each_none (Bears None)
-plain_flush o (Ok w) = plain_by w o
-
-plain_unless : (o : Option MessageFault) (r : Result Command GrpcStatus) → Each (Bears None) (command_of r) → Each (Bears None) (command_of (asked_unless o r))
-plain_unless None r h = h
-plain_unless (Some fault) r h = each_none (Bears None)
+plain_flush : (b : Option FlushBy) (w : Option Which) (refusal : Option GrpcStatus) → Each (Bears None) (command_of (unless_refused refusal (flush_of b w)))
+plain_flush b w (Some refusal) = each_none (Bears None)
+plain_flush None w None = each_none (Bears None)
+plain_flush (Some b) None None = each_none (Bears None)
+plain_flush (Some b) (Some w) None = each_one (Bears None) (command.Flush b w (pos 0)) (refl, refl)
 
 plain_get : (s : Setting) (m : List ℕ) → Each (Bears None) (command_of (get_asked s m))
 unfolding get_asked
-plain_get s m = plain_unless (first_fault s.numbering message.GetRequest m) _
-    (plain_select (kinds_of s.numbering (get_request s.numbering m).aft) (which_of s.instances (get_request s.numbering m).instance))
+plain_get s m = plain_select (which_asked s.instances (get_request s.numbering m).instance) (kinds_of s.numbering (get_request s.numbering m).aft) (get_message_refusal s m)
 
 plain_flushed : (s : Setting) (m : List ℕ) → Each (Bears None) (command_of (flush_asked s m))
 unfolding flush_asked
-plain_flushed s m = plain_unless (first_fault s.numbering message.FlushRequest m) _
-    (plain_flush (flush_request s.numbering m).election (which_of s.instances (flush_request s.numbering m).instance))
+plain_flushed s m = plain_flush (option_map allowed_by (flush_request s.numbering m).election) (which_asked s.instances (flush_request s.numbering m).instance) (flush_message_refusal s m)
 
 plain_asked : (s : Setting) (method : Method) (first : Option (List ℕ)) (is_more : Bool) → Each (Bears None) (command_of (asked_by s method first is_more))
 plain_asked s Get (Some m) false = plain_get s m

@@ -1,8 +1,8 @@
 -- Laws on the Leaves of sessions.
-use Rattle.std.proofs.Common.{◌≡◌, ◌≢◌, ◌⊎◌, ℕ, pos, ◌==◌, ◌≤◌, ◌+◌, Bool, true, false, ◌||◌, ◌&&◌, filter, List, [], ◌∷◌, ◌++◌, Option, Some, None, refl, sym, ap, ◌∙◌, subst, inl, inr, append-nil, append_assoc, arith, if◌then◌else◌}
-use Rattle.std.specs.Prelude.{not, is_some, map, filter_map}
-use Rattle.std.specs.List.{list_any, cons_option}
-use Rattle.std.proofs.lemmas.Bool.{or_left, or_right, or_parts, both_ways, eqb-true}
+use Rattle.std.proofs.Common.{◌≡◌, ◌⊎◌, ℕ, pos, Bool, true, false, ◌||◌, ◌&&◌, List, [], ◌∷◌, ◌++◌, Option, Some, None, refl, sym, ap, ◌∙◌, subst, inl, inr}
+use Rattle.std.specs.Prelude.{is_some}
+use Rattle.std.specs.List.{list_any}
+use Rattle.std.proofs.lemmas.Bool.{or_left, or_right, both_ways}
 use Rattle.std.proofs.lemmas.List.Folds.{list_any-append}
 use Rattle.proto_schema.specs.declared.schema.MessageKind.TheVariants as message
 use Rattle.proto_schema.specs.declared.legal.MessageFault.{MessageFault}
@@ -18,18 +18,14 @@ use Rattle.table_model.specs.Event.{Event}
 use Rattle.call_answers.specs.Orders.{orders_of, commands_of}
 use Rattle.call_answers.specs.declared.orders.Setting.{Setting}
 use Rattle.call_orders.specs.Owed.{ends_call}
-use Rattle.call_orders.specs.Calls.{CallState, NotBegun, Modifies, Receives, Responds, Over, Standing, Action, Handles, Collects, Continues, cut_of, stream_of, events_of, calls_of, without_leaves, commands_for, is_clear, unless_fault, after, standing}
-use Rattle.call_orders.specs.Actions.{AreActions, AreDone, AreDoneUnless, AreDoneInPart, IsAction, Leaves, leave, calls_in, events_in}
-use Rattle.call_orders.specs.Orders.{AllLeave, AreOrders, ConnectionEnd, GoesOn, AllHandled, Halted, NoMemory, Spent, IsOver, IsSpent, begun_by, begun_in, has, left_by, left_in, staying}
-use Rattle.call_orders.specs.Laws.{AreUsual, EndsLeave, FinishedLeave, IsOpen, LeaveIsNext, LeavesAreOnce, RefusalsLeave, count, ends_by, is_bad, is_finish_of, is_last_collect, refuses, refuses_in, session_of}
-use Rattle.call_orders.proofs.Counts.{count_append, counted, found, of_all, of_stream, one_stream, only_stream, two_streams}
-use Rattle.call_orders.proofs.Doing.{Bears, Each, any_end, each_none, in_part, left_nothing, none_done}
-use Rattle.call_orders.proofs.Following.{ActionAt, AllHold, IsAt, at_split, earlier_holds, left_less, next_placed, opened, proper}
-use Rattle.call_orders.proofs.Holding.{Holds, HoldsOpen, Placed, not_late, placed_parts, without_leave}
-use Rattle.call_orders.proofs.Open.{Parted, asks_late, is_finish, is_good, open_after, open_with, orders_own, parted, state_behind}
-use Rattle.call_orders.proofs.Ordered.{MayBe, entries_of, last_of}
-use Rattle.call_orders.proofs.Owning.{leaves_none}
-use Rattle.call_orders.proofs.Standing.{Proper, actions_parts, holds, proper_earlier}
+use Rattle.call_orders.specs.Calls.{CallState, Modifies, Over, Standing, Action, Handles, Collects, Continues, stream_of, events_of, without_leaves, commands_for, is_clear, unless_fault, after, standing}
+use Rattle.call_orders.specs.Actions.{AreDone, AreDoneUnless, IsAction, Leaves, leave, calls_in}
+use Rattle.call_orders.specs.Orders.{ConnectionEnd}
+use Rattle.call_orders.specs.Laws.{FinishedLeave, IsOpen, LeaveIsNext, RefusalsLeave, ends_by, is_finish_of, is_last_collect, refuses, refuses_in, session_of}
+use Rattle.call_orders.proofs.Doing.{Bears, Each, in_part, none_done}
+use Rattle.call_orders.proofs.Following.{ActionAt, at_split, earlier_holds, opened}
+use Rattle.call_orders.proofs.Holding.{not_late, placed_parts, without_leave}
+use Rattle.call_orders.proofs.Open.{Parted, asks_late, is_finish, is_good, open_after, open_with, parted, state_behind}
 
 -- ---- what ends a call
 

@@ -1,10 +1,9 @@
 -- An action for a Modify call that nothing has ended: what becomes of the call, and its Leave.
-use Rattle.std.proofs.Common.{◌≡◌, ◌⊎◌, ℕ, pos, Bool, true, false, ◌||◌, ◌&&◌, List, [], ◌∷◌, ◌++◌, Option, Some, None, refl, sym, ap, ◌∙◌, subst, inl, inr, append-nil}
+use Rattle.std.proofs.Common.{◌≡◌, ℕ, pos, Bool, true, false, ◌||◌, ◌&&◌, List, [], ◌∷◌, ◌++◌, Option, Some, None, refl, sym, ap, ◌∙◌, subst}
 use Rattle.std.specs.Prelude.{is_some, if◌then◌else◌}
 use Rattle.std.specs.List.{list_any, flat_map}
 use Rattle.std.specs.Option.{option_map}
-use Rattle.std.proofs.lemmas.Bool.{or_left, or_right, or_parts}
-use Rattle.std.proofs.lemmas.List.Folds.{list_any-append}
+use Rattle.std.proofs.lemmas.Bool.{or_left}
 use Rattle.proto_schema.specs.declared.schema.MessageKind.TheVariants as message
 use Rattle.proto_schema.specs.declared.legal.MessageFault.{MessageFault}
 use Rattle.proto_schema.specs.Legal.{first_fault}
@@ -12,18 +11,15 @@ use Rattle.grpc_heads.specs.CallEnd.{CallEnd, Status}
 use Rattle.grpc_heads.specs.declared.head.Method.{Method}
 use Rattle.h2_exchange.specs.Calls.{Call, Begun, Request, Finished, Dropped, Declined}
 use Rattle.h2_exchange.specs.StreamParts.{Item, Finish}
-use Rattle.table_model.specs.declared.command.Command.{Command}
-use Rattle.table_model.specs.declared.command.Command.TheVariants as command
-use Rattle.table_model.specs.declared.reply.Reply.{Reply}
 use Rattle.table_model.specs.Event.{Event}
 use Rattle.call_answers.specs.Orders.{orders_of, commands_of}
 use Rattle.call_answers.specs.declared.orders.Setting.{Setting}
 use Rattle.call_orders.specs.Owed.{items_for, ends_call, has_end, end_items, ok}
-use Rattle.call_orders.specs.Requests.{bad_message}
-use Rattle.call_orders.specs.Calls.{CallState, NotBegun, Modifies, Receives, Responds, Over, Standing, Action, Handles, Collects, Continues, events_of, without_leaves, commands_for, refusal_for, unless_fault, next_state, is_clear, good_end, after}
-use Rattle.call_orders.specs.Actions.{IsAction, IsHandled, IsCollected, AreDoneInPart, Leaves, leave}
-use Rattle.call_orders.specs.Laws.{ends_by, refuses, refuses_in, is_bad}
-use Rattle.call_orders.proofs.Doing.{Each, Bears, any_end, each_none, each_one, each_order, each_part, bears_timeless, end_behind, in_part, none_done}
+use Rattle.call_requests.specs.Asked.{bad_message}
+use Rattle.call_orders.specs.Calls.{CallState, Modifies, Over, Standing, Action, Handles, Collects, Continues, events_of, without_leaves, commands_for, refusal_for, unless_fault, is_clear, good_end, after}
+use Rattle.call_orders.specs.Actions.{IsAction, IsHandled, Leaves}
+use Rattle.call_orders.specs.Laws.{ends_by, refuses, is_bad}
+use Rattle.call_orders.proofs.Doing.{Each, Bears, each_none, each_one, each_order, each_part, bears_timeless, end_behind, in_part, none_done}
 
 abbrev pub open_with : ℕ → Bool → List (Item CallEnd) → Standing
 open_with session f its = record { state = Modifies session f; items = its }

@@ -1,9 +1,6 @@
 -- Laws on the commands of calls.
-use Rattle.std.proofs.Common.{◌≡◌, ◌⊎◌, ℕ, pos, ◌==◌, ◌≤◌, ◌+◌, Bool, true, false, ◌||◌, ◌&&◌, List, [], ◌∷◌, ◌++◌, Option, Some, None, refl, sym, ap, ◌∙◌, subst, inl, inr, append-nil, append_assoc, arith, if◌then◌else◌}
-use Rattle.std.specs.Prelude.{not, is_some, map, filter_map}
-use Rattle.std.specs.List.{list_any}
-use Rattle.std.specs.Option.{option_or}
-use Rattle.std.proofs.lemmas.Bool.{or_left, or_right, or_parts, both_ways}
+use Rattle.std.proofs.Common.{◌≡◌, ◌⊎◌, ℕ, pos, Bool, true, false, List, [], ◌∷◌, ◌++◌, Option, Some, None, refl, sym, ap, ◌∙◌, subst, inl, inr}
+use Rattle.std.specs.Prelude.{is_some}
 use Rattle.proto_schema.specs.declared.schema.MessageKind.TheVariants as message
 use Rattle.proto_schema.specs.declared.legal.MessageFault.{MessageFault}
 use Rattle.proto_schema.specs.Legal.{first_fault}
@@ -14,19 +11,17 @@ use Rattle.h2_exchange.specs.Calls.{Call, Begun, Request, Finished, Dropped, Dec
 use Rattle.h2_exchange.specs.StreamParts.{Item}
 use Rattle.table_model.specs.declared.command.Command.{Command}
 use Rattle.table_model.specs.declared.command.Command.TheVariants as command
-use Rattle.table_model.specs.declared.reply.Reply.{Reply}
 use Rattle.table_model.specs.Event.{Event}
 use Rattle.call_answers.specs.Orders.{orders_of, commands_of}
 use Rattle.call_answers.specs.declared.orders.Setting.{Setting}
-use Rattle.call_orders.specs.Calls.{CallState, NotBegun, Modifies, Receives, Responds, Over, Standing, Action, Handles, Collects, Continues, stream_of, events_of, calls_of, without_leaves, commands_for, handled, unless_fault, standing}
-use Rattle.call_orders.specs.Actions.{AreActions, AreDone, AreDoneInPart, AreDoneOrCut, IsAction, IsHandled, Leaves, leave, session_in, timeless, calls_in, events_in}
-use Rattle.call_orders.specs.Orders.{AreOrders, ConnectionEnd, begun_by, begun_in, left_by, left_in}
-use Rattle.call_orders.specs.Laws.{AreUsual, IsOpen, NothingElseOrders, RequestsAreDone, count, is_bad, session_of}
-use Rattle.call_orders.proofs.Doing.{Bears, Each, Timeless, bears_timeless, each_append, each_at, each_none, each_one, each_part, in_part, session_timeless}
-use Rattle.call_orders.proofs.Following.{ActionAt, AllHold, at_split, earlier_holds, is_open, opened}
+use Rattle.call_orders.specs.Calls.{CallState, NotBegun, Modifies, Receives, Responds, Over, Standing, Action, Handles, Collects, Continues, stream_of, events_of, without_leaves, commands_for, handled, unless_fault, standing}
+use Rattle.call_orders.specs.Actions.{AreDone, AreDoneOrCut, IsAction, IsHandled, Leaves, leave, session_in}
+use Rattle.call_orders.specs.Laws.{NothingElseOrders, RequestsAreDone, is_bad, session_of}
+use Rattle.call_orders.proofs.Doing.{Bears, Each, Timeless, each_append, each_at, each_none, each_one, each_part, in_part, session_timeless}
+use Rattle.call_orders.proofs.Following.{at_split, earlier_holds, is_open, opened}
 use Rattle.call_orders.proofs.Holding.{Holds, HoldsOpen, not_late, placed_parts}
 use Rattle.call_orders.proofs.Idle.{Idle, plain_commands}
-use Rattle.call_orders.proofs.Open.{asks_late, orders_own, open_with, parted}
+use Rattle.call_orders.proofs.Open.{asks_late, orders_own, parted}
 use Rattle.call_orders.proofs.Standing.{proper_earlier}
 
 -- ---- a message that is done

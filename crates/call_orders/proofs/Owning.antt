@@ -1,27 +1,26 @@
 -- Each command of a session is on one that was begun before it and has not left.
-use Rattle.std.proofs.Common.{◌≡◌, ◌⊎◌, ℕ, ◌==◌, ◌≤◌, ◌+◌, Bool, true, false, List, [], ◌∷◌, ◌++◌, Option, Some, None, refl, sym, ap, ◌∙◌, subst, inl, inr, append-nil, append_assoc, arith}
-use Rattle.std.specs.Prelude.{map, filter_map}
-use Rattle.std.specs.List.{list_any, cons_option}
+use Rattle.std.proofs.Common.{◌≡◌, ℕ, ◌≤◌, List, [], ◌∷◌, ◌++◌, Option, Some, None, refl, sym, ap, ◌∙◌, subst, inl, inr, append-nil, append_assoc, arith}
+use Rattle.std.specs.Prelude.{map}
+use Rattle.std.specs.List.{cons_option}
 use Rattle.grpc_heads.specs.CallEnd.{CallEnd}
 use Rattle.grpc_heads.specs.declared.head.Method.{Method}
 use Rattle.h2_exchange.specs.Calls.{Call}
 use Rattle.h2_exchange.specs.StreamParts.{Item}
 use Rattle.table_model.specs.declared.command.Command.{Command}
 use Rattle.table_model.specs.declared.command.Command.TheVariants as command
-use Rattle.table_model.specs.declared.reply.Reply.{Reply}
 use Rattle.table_model.specs.Event.{Event}
 use Rattle.table_model.specs.Sessions.{leaving_session}
 use Rattle.call_answers.specs.declared.orders.Setting.{Setting}
-use Rattle.call_orders.specs.Calls.{CallState, NotBegun, Modifies, Receives, Responds, Over, Standing, Action, Handles, Collects, Continues, stream_of, events_of, calls_of, without_leaves, standing}
-use Rattle.call_orders.specs.Actions.{AreActions, IsAction, session_in, events_in}
-use Rattle.call_orders.specs.Orders.{AllLeave, AreOrders, ConnectionEnd, GoesOn, AllHandled, Halted, NoMemory, Spent, IsOver, IsSpent, begun_by, begun_in, left_by, left_in, staying}
-use Rattle.call_orders.specs.Laws.{AreUsual, SessionsAreOwn, count, session_of}
-use Rattle.call_orders.proofs.Counts.{count_self, counted, events_more, of_stream, one_stream}
-use Rattle.call_orders.proofs.Doing.{Bears, Each, each_append, each_first, each_none}
+use Rattle.call_orders.specs.Calls.{CallState, NotBegun, Modifies, Receives, Responds, Over, Standing, Action, stream_of, events_of, without_leaves, standing}
+use Rattle.call_orders.specs.Actions.{AreActions, IsAction, events_in}
+use Rattle.call_orders.specs.Orders.{AllLeave, ConnectionEnd, GoesOn, AllHandled, Halted, NoMemory, Spent, IsOver, IsSpent, begun_by, begun_in, left_by, left_in, staying}
+use Rattle.call_orders.specs.Laws.{SessionsAreOwn, count, session_of}
+use Rattle.call_orders.proofs.Counts.{count_self, counted, one_stream}
+use Rattle.call_orders.proofs.Doing.{Bears, Each, each_first}
 use Rattle.call_orders.proofs.Following.{AllHold, proper, stays_there}
-use Rattle.call_orders.proofs.Holding.{Holds, HoldsOpen}
-use Rattle.call_orders.proofs.Open.{open_with, orders_own, parted}
-use Rattle.call_orders.proofs.Ordered.{IsOf, MayBe, each_map, entries_of, last_of}
+use Rattle.call_orders.proofs.Holding.{Holds}
+use Rattle.call_orders.proofs.Open.{orders_own, parted}
+use Rattle.call_orders.proofs.Ordered.{MayBe, each_map, entries_of, last_of}
 use Rattle.call_orders.proofs.Standing.{Proper, actions_parts, holds, proper_earlier}
 
 -- ---- a fact at each entry, in the light of those before it

@@ -1,5 +1,5 @@
 -- What Gets and Flushes are owed.
-use Rattle.std.proofs.Common.{◌≡◌, ◌⊎◌, ℕ, ◌==◌, Bool, true, false, ◌||◌, ◌&&◌, List, [], ◌∷◌, ◌++◌, Option, Some, None, refl, sym, ap, ◌∙◌, subst, inl, inr, append-nil, append_assoc, eq-eqb, if◌then◌else◌}
+use Rattle.std.proofs.Common.{◌≡◌, ◌⊎◌, ℕ, ◌==◌, Bool, true, false, ◌||◌, List, [], ◌∷◌, ◌++◌, Option, Some, None, refl, sym, ap, ◌∙◌, subst, inl, inr, append-nil, append_assoc, eq-eqb, if◌then◌else◌}
 use Rattle.std.specs.Prelude.{not, is_some, map, filter_map, Result, Ok, Err}
 use Rattle.std.specs.List.{list_any, flat_map, cons_option}
 use Rattle.std.proofs.lemmas.Bool.{or_left, or_right, or_parts, and_parts, both_ways, eqb-true}
@@ -9,7 +9,7 @@ use Rattle.grpc_heads.specs.CallEnd.{CallEnd, Status}
 use Rattle.grpc_heads.specs.declared.head.Method.{Method}
 use Rattle.grpc_heads.specs.declared.head.Method.TheVariants.{Modify, Get, Flush}
 use Rattle.aft_entries.specs.declared.operation.Row.{Row}
-use Rattle.h2_exchange.specs.Calls.{Call, Begun, Request, Finished, Dropped, Declined, ends_asking, is_begun_call, is_in_place, stream_in, ends_call as drops_call}
+use Rattle.h2_exchange.specs.Calls.{Call, Begun, Request, Finished, Dropped, Declined, ends_asking, is_begun_call, stream_in, ends_call as drops_call}
 use Rattle.h2_exchange.specs.StreamParts.{Item, Message, Finish}
 use Rattle.table_model.specs.declared.command.Command.{Command}
 use Rattle.table_model.specs.declared.command.Command.TheVariants as command
@@ -17,11 +17,12 @@ use Rattle.table_model.specs.declared.reply.Reply.{Reply}
 use Rattle.table_model.specs.declared.reply.Reply.TheVariants as reply
 use Rattle.table_model.specs.Event.{Event}
 use Rattle.call_answers.specs.declared.orders.Setting.{Setting}
-use Rattle.call_orders.specs.Owed.{end_items, ends_call, has_end, items_for, items_to, ok, row_responses, selected_items}
-use Rattle.call_orders.specs.Calls.{CallState, NotBegun, Modifies, Receives, Responds, Over, Standing, Action, Handles, Collects, Continues, asked_by, begun_by_reply, begun_state, command_of, continued, cut_of, handled, stream_of, events_of, calls_of, without_leaves, commands_for, next_items, next_state, refusal_for, refusal_of, selected_by_reply, selected_state, waiting_behind, waiting_in, after, answers, standing}
+use Rattle.call_requests.specs.Responses.{get_responses}
+use Rattle.call_orders.specs.Owed.{end_items, ends_call, has_end, items_for, items_to, ok, selected_items}
+use Rattle.call_orders.specs.Calls.{CallState, NotBegun, Modifies, Receives, Responds, Over, Standing, Action, Handles, Collects, Continues, asked_by, begun_by_reply, begun_state, command_of, continued, cut_of, handled, stream_of, events_of, calls_of, without_leaves, commands_for, next_state, refusal_for, refusal_of, selected_by_reply, selected_state, waiting_in, after, standing}
 use Rattle.call_orders.specs.Actions.{AreActions, AreDone, AreDoneUnless, IsAction, IsHandled, session_in, timeless, calls_in, events_in}
 use Rattle.call_orders.specs.Orders.{actions_on, events_on}
-use Rattle.call_orders.specs.Laws.{IsOnceDone, SinglesAreAnswered, asked_with, ends_by, is_cut, is_finish_of, is_finished_in, is_single, message_in, messages_on, method_in, methods_on, single_to}
+use Rattle.call_orders.specs.Laws.{IsOnceDone, SinglesAreAnswered, asked_with, ends_by, is_cut, is_finish_of, is_finished_in, is_single, message_in, messages_on, method_in, methods_on}
 use Rattle.call_orders.proofs.Answered.{no_cut}
 use Rattle.call_orders.proofs.Counts.{events_here, events_other, on_other, standing_here, standing_other}
 use Rattle.call_orders.proofs.Doing.{in_part, none_done}
@@ -179,7 +180,7 @@ module _ (s : Setting) (actions : List Action) (id : ℕ) (method : Method) (met
           once = subst (λ (r : Result Command GrpcStatus). IsOnceDone s true r (events_on actions id) ((its ++ []) ++ selected_items s rows)) (sym asked)
               (record { command = d; reply = reply.Selected rows }, did, same, no_items (its ++ []) (selected_items s rows) (append-nil its ∙ none));
         },
-        record { messages = row_responses s rows; waiting_is = refl },
+        record { messages = get_responses s.numbering s.instances rows; waiting_is = refl },
       )
   done_held its c d said none same asked did =
       subst (λ (x : CallState). Held s actions id x (its ++ ((items_to s d said ++ []) ++ []))) (sym (any_over (has_end ((items_to s d said ++ []) ++ [])) Over refl))

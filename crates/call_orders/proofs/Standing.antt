@@ -1,32 +1,29 @@
 -- Where calls stand behind all actions, and what holds of them.
-use Rattle.std.proofs.Common.{◌≡◌, ◌⊎◌, ℕ, ◌==◌, ◌≤◌, ◌+◌, Bool, true, false, ◌||◌, ◌&&◌, List, [], ◌∷◌, ◌++◌, Option, Some, None, refl, sym, ap, ◌∙◌, subst, inl, inr, append-nil, eq-eqb, arith, if◌then◌else◌}
-use Rattle.std.specs.Prelude.{not, filter_map}
+use Rattle.std.proofs.Common.{◌≡◌, ℕ, ◌==◌, ◌≤◌, Bool, true, false, ◌&&◌, List, [], ◌∷◌, ◌++◌, Option, Some, None, refl, sym, ap, ◌∙◌, subst, eq-eqb, arith, if◌then◌else◌}
+use Rattle.std.specs.Prelude.{not}
 use Rattle.std.specs.List.{list_any, flat_map, cons_option}
-use Rattle.std.specs.Option.{option_or}
 use Rattle.std.proofs.lemmas.Bool.{eqb-true, or_parts, or_from, and_parts, both_ways}
-use Rattle.std.proofs.lemmas.List.Folds.{list_any-append}
 use Rattle.grpc_heads.specs.CallEnd.{CallEnd}
 use Rattle.grpc_heads.specs.declared.head.Method.{Method}
 use Rattle.grpc_heads.specs.declared.head.Method.TheVariants.{Modify, Get, Flush}
-use Rattle.h2_exchange.specs.Calls.{Call, Begun, Request, Finished, Dropped, Declined, stream_in, is_begun_call, is_in_place, ends_asking, ends_call as drops_call}
+use Rattle.h2_exchange.specs.Calls.{Call, Begun, Request, Finished, Dropped, Declined, stream_in, is_begun_call, ends_asking, ends_call as drops_call}
 use Rattle.h2_exchange.specs.StreamParts.{Item, Finish}
 use Rattle.table_model.specs.declared.command.Command.{Command}
 use Rattle.table_model.specs.declared.command.Command.TheVariants as command
 use Rattle.table_model.specs.declared.reply.Reply.{Reply}
 use Rattle.table_model.specs.declared.reply.Reply.TheVariants as reply
 use Rattle.table_model.specs.Event.{Event}
-use Rattle.call_answers.specs.Ends.{status_by}
 use Rattle.call_answers.specs.declared.orders.Setting.{Setting}
-use Rattle.call_orders.specs.Owed.{ends_call, end_items, has_end, items_for}
-use Rattle.call_orders.specs.Calls.{cut_by, owing, CallState, NotBegun, Modifies, Receives, Responds, Over, Standing, Action, Handles, Collects, Continues, stream_of, events_of, calls_of, without_leaves, begun_by_reply, begun_state, commands_for, next_state, refusal_for, after, standing, not_begun}
+use Rattle.call_orders.specs.Owed.{ends_call, has_end, items_for}
+use Rattle.call_orders.specs.Calls.{cut_by, owing, CallState, NotBegun, Modifies, Receives, Responds, Over, Standing, Action, Handles, Collects, Continues, stream_of, events_of, without_leaves, begun_by_reply, begun_state, commands_for, next_state, refusal_for, after, standing}
 use Rattle.call_orders.specs.Actions.{timeless, AreActions, AreDone, AreDoneUnless, AreDoneInPart, IsAction, IsHandled, Leaves, leave, session_in, calls_in, events_in}
-use Rattle.call_orders.specs.Orders.{actions_on, begun_by, begun_in, events_on, left_by, left_in}
+use Rattle.call_orders.specs.Orders.{actions_on, begun_by, begun_in, events_on, left_in}
 use Rattle.call_orders.specs.Laws.{count, ends_by, is_finish_of, is_stray}
-use Rattle.call_orders.proofs.Counts.{count_append, counted, count_self, events_more, on_here, of_all, of_one, of_stream, one_stream, only_stream, standing_here, standing_other, two_streams}
-use Rattle.call_orders.proofs.Doing.{Bears, any_end, end_behind, begun_append, begun_nothing, each_one, left_append, left_nothing, stray_parts, in_part, none_done}
-use Rattle.call_orders.proofs.Holding.{any_is, any_more, begun_here, finish_stream, join, left_here, none_here, unbegun_begun, unbegun_left, ArePlaced, Holds, HoldsNone, HoldsOpen, HoldsOver, HoldsUnbegun, Placed, goes_on, idle_here, holds_other, open_here, over_here, placed_parts, with_leave, without_leave}
-use Rattle.call_orders.proofs.Idle.{Idle, at_state, no_last}
-use Rattle.call_orders.proofs.Open.{Parted, is_finish, or_true}
+use Rattle.call_orders.proofs.Counts.{counted, events_more, on_here, standing_here, standing_other}
+use Rattle.call_orders.proofs.Doing.{Bears, end_behind, begun_nothing, each_one, stray_parts, in_part, none_done}
+use Rattle.call_orders.proofs.Holding.{any_more, begun_here, finish_stream, join, left_here, none_here, unbegun_begun, unbegun_left, ArePlaced, Holds, HoldsNone, HoldsOpen, HoldsOver, HoldsUnbegun, Placed, idle_here, holds_other, open_here, over_here, placed_parts, without_leave}
+use Rattle.call_orders.proofs.Idle.{at_state, no_last}
+use Rattle.call_orders.proofs.Open.{or_true}
 
 -- ---- a call that is not begun is not asked for
 

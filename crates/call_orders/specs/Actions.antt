@@ -12,7 +12,7 @@ use Rattle.table_model.specs.declared.reply.Reply.{Reply}
 use Rattle.table_model.specs.Event.{Event}
 use Rattle.call_answers.specs.declared.orders.Setting.{Setting}
 use Rattle.call_orders.specs.Owed.{ends_call, has_end}
-use Rattle.call_orders.specs.Calls.{CallState, NotBegun, Modifies, Receives, Responds, Over, Standing, Action, Handles, Collects, Continues, stream_of, events_of, calls_of, without_leaves, commands_for, next_state, handled, collected, continued, cut_by, after, standing}
+use Rattle.call_orders.specs.Calls.{CallState, Modifies, Responds, Over, Standing, Action, Handles, Collects, Continues, stream_of, events_of, calls_of, without_leaves, commands_for, next_state, handled, collected, continued, cut_by, after, standing}
 
 -- ---- commands
 

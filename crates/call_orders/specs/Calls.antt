@@ -23,7 +23,7 @@ use Rattle.grpc_heads.specs.CallEnd.{CallEnd, Status}
 use Rattle.grpc_heads.specs.declared.head.Method.{Method}
 use Rattle.grpc_heads.specs.declared.head.Method.TheVariants.{Modify, Get, Flush}
 use Rattle.h2_exchange.specs.Calls.{Call, Begun, Request, Finished, Dropped, Declined, stream_in}
-use Rattle.h2_exchange.specs.StreamParts.{Item, Message, Finish}
+use Rattle.h2_exchange.specs.StreamParts.{Item, Finish}
 use Rattle.table_model.specs.declared.command.Command.{Command}
 use Rattle.table_model.specs.declared.command.Command.TheVariants as command
 use Rattle.table_model.specs.declared.reply.Reply.{Reply}
@@ -31,7 +31,8 @@ use Rattle.table_model.specs.declared.reply.Reply.TheVariants as reply
 use Rattle.table_model.specs.Event.{Event}
 use Rattle.call_answers.specs.Orders.{orders_of, commands_of}
 use Rattle.call_answers.specs.declared.orders.Setting.{Setting}
-use Rattle.call_orders.specs.Requests.{invalid, bad_message, get_asked, flush_asked}
+use Rattle.call_requests.specs.Asked.{invalid, bad_message}
+use Rattle.call_orders.specs.Requests.{get_asked, flush_asked}
 use Rattle.call_orders.specs.Owed.{is_leave, items_for, selected_items, end_items, has_end, ok, want_of_memory}
 
 -- ---- states

@@ -1,5 +1,5 @@
 -- Worked cases: where the call on stream 1 stands, and what it is owed. Its session is 7.
-use Rattle.std.specs.Prelude.{◌≡◌, ℕ, zero, suc, pos, true, false, List, [], ◌∷◌, Option, Some, None, codes}
+use Rattle.std.specs.Prelude.{◌≡◌, ℕ, zero, suc, pos, true, false, List, [], ◌∷◌, Some, None, codes}
 use Rattle.aft_entries.specs.declared.operation.Ask.TheVariants as ask
 use Rattle.aft_entries.specs.declared.operation.Reason.TheVariants.{BadKey}
 use Rattle.aft_entries.specs.declared.operation.Row.{Row}
@@ -27,7 +27,7 @@ use Rattle.call_answers.specs.declared.orders.Setting.{Setting}
 use Rattle.call_orders.specs.Owed.{flush_response}
 use Rattle.call_orders.specs.Calls.{CallState, NotBegun, Modifies, Responds, Over, Action, Handles, Collects, Continues, Standing, standing, answers}
 use Rattle.call_orders.specs.Actions.{AreActions}
-use Rattle.call_orders.specs.Orders.{Cut, cuts}
+use Rattle.call_orders.specs.Orders.{cuts}
 
 abbrev pub did : Command → Reply → Event
 did c r = record { command = c; reply = r }

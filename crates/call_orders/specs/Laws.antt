@@ -17,7 +17,7 @@ use Rattle.table_model.specs.Event.{Event, is_began}
 use Rattle.call_answers.specs.Ends.{status_by}
 use Rattle.call_answers.specs.Orders.{orders_of, commands_of}
 use Rattle.call_answers.specs.declared.orders.Setting.{Setting}
-use Rattle.call_orders.specs.Requests.{bad_message}
+use Rattle.call_requests.specs.Asked.{bad_message}
 use Rattle.call_orders.specs.Owed.{end_items, has_end, id_of, items_to, is_operate, moment_of, selected_items, ends_call, modify_responses, ok, want_of_memory}
 use Rattle.call_orders.specs.Calls.{Action, Handles, Collects, Continues, asked_by, stream_of, events_of, cut_of, without_leaves, is_clear, answers, standing}
 use Rattle.call_orders.specs.Actions.{AreDone, AreDoneInPart, leave, timeless, calls_in, events_in}

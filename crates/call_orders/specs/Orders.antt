@@ -1,11 +1,10 @@
 -- What the calls of a connection made of the table, all actions together, and how that ends.
-use Rattle.std.specs.Prelude.{◌≡◌, ◌⊎◌, ℕ, ◌==◌, Bool, true, false, not, is_some, length, filter, filter_map, map, List, [], ◌∷◌, ◌++◌, Option, Some, None}
+use Rattle.std.specs.Prelude.{◌≡◌, ◌⊎◌, ℕ, ◌==◌, Bool, true, false, not, length, filter, filter_map, map, List, [], ◌∷◌, ◌++◌, Option, Some, None}
 use Rattle.std.specs.List.{list_any}
 use Rattle.std.specs.Option.{option_map_or}
 use Rattle.grpc_heads.specs.CallEnd.{CallEnd}
 use Rattle.grpc_heads.specs.declared.head.Method.{Method}
 use Rattle.h2_exchange.specs.Calls.{Call}
-use Rattle.table_model.specs.declared.command.Command.{Command}
 use Rattle.table_model.specs.declared.command.Command.TheVariants as command
 use Rattle.table_model.specs.declared.reply.Reply.{Reply}
 use Rattle.table_model.specs.declared.reply.Reply.TheVariants as reply

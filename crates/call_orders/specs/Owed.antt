@@ -1,14 +1,12 @@
 -- What an entry of the table's history, a command with its reply, owes the call that gave it (gRIBI): responses, and the status that
 -- ends the call.
-use Rattle.std.specs.Prelude.{ℕ, zero, suc, ℤ, pos, Bool, true, false, map, take, drop, length, List, [], ◌∷◌, ◌++◌, Option, Some, None, codes, if◌then◌else◌}
+use Rattle.std.specs.Prelude.{ℕ, ℤ, pos, Bool, true, false, map, List, [], ◌∷◌, ◌++◌, Option, Some, None, codes}
 use Rattle.std.specs.List.{list_any}
 use Rattle.std.specs.Option.{option_map_or}
-use Rattle.schema_numbers.specs.Numbers.{Numbers, value_of}
-use Rattle.schema_numbers.specs.declared.names.ValueName.TheVariants as value
+use Rattle.schema_numbers.specs.Numbers.{Numbers}
 use Rattle.aft_entries.specs.declared.operation.Row.{Row}
 use Rattle.gribi_messages.specs.GetAndFlush.{flush_response_bytes}
 use Rattle.gribi_messages.specs.Response.{response_bytes}
-use Rattle.gribi_messages.specs.Rows.{rows_bytes}
 use Rattle.grpc_heads.specs.GrpcStatus.{GrpcStatus}
 use Rattle.grpc_heads.specs.CallEnd.{CallEnd, Status}
 use Rattle.h2_exchange.specs.StreamParts.{Item, Message, Finish}
@@ -20,6 +18,7 @@ use Rattle.table_model.specs.Event.{Event}
 use Rattle.call_answers.specs.Answers.{response_for}
 use Rattle.call_answers.specs.Ends.{ending, status_by}
 use Rattle.call_answers.specs.declared.orders.Setting.{Setting}
+use Rattle.call_requests.specs.Responses.{flush_answer, get_responses}
 
 -- ---- commands
 
@@ -68,25 +67,12 @@ has_end items = list_any is_end items
 
 -- ---- responses
 
--- at most so many lists of so many elements, in order, and none that is empty
-abbrev pub pieces_of : {X : Type 0} → ℕ → ℕ → List X → List (List X)
-pieces_of n zero xs = []
-pieces_of n (suc k) [] = []
-pieces_of n (suc k) (x ∷ xs) = take n (x ∷ xs) ∷ pieces_of n k (drop n (x ∷ xs))
-
--- the responses of a Get: 64 entries in each, and fewer in the last
-abbrev pub row_responses : Setting → List Row → List (List ℕ)
-row_responses s rows = map (rows_bytes s.numbering s.instances) (pieces_of 64 (length rows) rows)
-
--- what a Get owes whose entries were selected: their responses, and then OK
+-- what a Get owes whose entries were selected: their responses, at most 64 entries in each, and then OK
 abbrev pub selected_items : Setting → List Row → List (Item CallEnd)
-selected_items s rows = items_by (row_responses s rows) (Some ok)
-
-abbrev pub flush_result : Numbers → Bool → ℕ
-flush_result n remain = if remain then value_of n value.FlushResultNonZeroReferenceRemain else value_of n value.FlushResultOk
+selected_items s rows = items_by (get_responses s.numbering s.instances rows) (Some ok)
 
 abbrev pub flush_response : Setting → ℤ → Bool → List ℕ
-flush_response s now remain = flush_response_bytes s.numbering (record { timestamp = now; result = flush_result s.numbering remain })
+flush_response s now remain = flush_response_bytes s.numbering (flush_answer s.numbering now remain)
 
 -- the response to a command of a Modify call, if its reply is owed one
 abbrev pub modify_responses : Numbers → ℕ → ℤ → Reply → List (List ℕ)

@@ -1,4 +1,3 @@
-use Rattle.std.proofs.Common.{refl}
 use Rattle.call_orders.specs.Calls.{standing}
 use Rattle.call_orders.proofs.examples.refused_calls.Goals as goal
 

@@ -1,4 +1,4 @@
-use Rattle.std.proofs.Common.{◌≡◌, true, false, List, ℕ, pos, refl, sym, subst, [], ◌∷◌, ◌++◌, ◌≤◌, Option, Some, None, arith}
+use Rattle.std.proofs.Common.{◌≡◌, false, List, ℕ, pos, refl, sym, subst, [], ◌∷◌, ◌++◌, Option, Some, None, arith}
 use Rattle.std.specs.List.{flat_map}
 use Rattle.std.specs.Option.{option_map}
 use Rattle.proto_schema.specs.declared.schema.MessageKind.TheVariants as message
@@ -12,10 +12,10 @@ use Rattle.table_model.specs.Event.{Event}
 use Rattle.call_answers.specs.Orders.{orders_of, commands_of}
 use Rattle.call_answers.specs.declared.orders.Orders.{Orders}
 use Rattle.call_answers.specs.declared.orders.Setting.{Setting}
-use Rattle.call_orders.specs.Owed.{end_items, has_end, items_for}
-use Rattle.call_orders.specs.Requests.{bad_message}
-use Rattle.call_orders.specs.Calls.{CallState, Modifies, Over, Standing, Handles, after, cut_by, not_begun, owing, standing, unless_fault, without_leaves}
-use Rattle.call_orders.specs.Actions.{AreActions, AreDone, AreDoneInPart, IsHandled, Leaves, MayBeMade}
+use Rattle.call_orders.specs.Owed.{end_items, items_for}
+use Rattle.call_requests.specs.Asked.{bad_message}
+use Rattle.call_orders.specs.Calls.{Modifies, Standing, Handles, after, cut_by, not_begun, owing, standing, unless_fault, without_leaves}
+use Rattle.call_orders.specs.Actions.{AreActions, AreDone, IsHandled, Leaves, MayBeMade}
 use Rattle.call_orders.specs.Examples.{did, leaves, operates, operation}
 use Rattle.call_orders.proofs.examples.right_calls.Goals as goal
 

@@ -1,9 +1,10 @@
 use Rattle.std.proofs.Common.{refl}
+use Rattle.call_requests.specs.Responses.{get_responses}
 use Rattle.call_orders.specs.Calls.{standing}
 use Rattle.call_orders.proofs.examples.short_calls.Goals as goal
 
 pub returns : goal.returns
-unfolding standing
+unfolding standing get_responses
 returns c = λ s get flush row e f. record {
   get_many = simp e;
   get_first = simp e;
