@@ -1,0 +1,3 @@
+pub mod CallState
+pub mod Table
+pub mod Endings
