@@ -1,0 +1,12 @@
+pub mod Turning
+pub mod Rounds
+pub mod Moving
+pub mod Joined
+pub mod Moved
+pub mod Kept
+pub mod Spoke
+pub mod Turned
+pub mod Done
+pub mod Sent
+pub mod Stopping
+pub mod Taking

@@ -1,0 +1,4 @@
+pub mod Spelling
+pub mod Pumping
+pub mod Moves
+pub mod Laws
