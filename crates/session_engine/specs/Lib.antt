@@ -1,0 +1,5 @@
+pub mod Steps
+pub mod Stands
+pub mod Queries
+pub mod Singles
+pub mod Laws
