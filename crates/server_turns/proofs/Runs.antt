@@ -11,7 +11,8 @@ use Rattle.table_lock.proofs.Extends.{extended_more, extended_none}
 use Rattle.table_model.specs.declared.command.Command.{Command}
 use Rattle.table_model.specs.declared.reply.Reply.{Reply}
 use Rattle.table_model.specs.Event.{Event}
-use Rattle.server_turns.specs.Making.{Makes, entries_of}
+use Rattle.session_engine.specs.Stands.{own}
+use Rattle.server_turns.specs.Making.{Makes}
 use Rattle.server_turns.specs.Past.{Past, nothing}
 use Rattle.server_turns.specs.Serving.{Account}
 use Rattle.server_turns.specs.Turning.{During, behind}
@@ -26,14 +27,14 @@ pieces_then None xs ys = refl
 pieces_then (Some told) xs ys = ap (λ (l : List Piece). (let o : Option (List Piece) = Some l in o)) (append_assoc told xs ys)
 
 module _ {G : Type 0} (lawful : G → List (Entry Command Reply) → Type 0) (setup : G) where
-  extended_then : (p q r : PassView Command Reply G) (xs ys : List Event) → IsExtended lawful setup p q (entries_of p.number xs) →
-      IsExtended lawful setup q r (entries_of q.number ys) → IsExtended lawful setup p r (entries_of p.number (xs ++ ys))
+  extended_then : (p q r : PassView Command Reply G) (xs ys : List Event) → IsExtended lawful setup p q (own p.number xs) →
+      IsExtended lawful setup q r (own q.number ys) → IsExtended lawful setup p r (own p.number (xs ++ ys))
   extended_then p q r xs ys h k =
-      let same : entries_of q.number ys ≡ entries_of p.number ys = ap (λ (n : ℕ). entries_of n ys) h.same.2 in
-      let joined : entries_of p.number xs ++ entries_of q.number ys ≡ entries_of p.number (xs ++ ys) =
-      ap (λ (l : List (Entry Command Reply)). entries_of p.number xs ++ l) same ∙ sym (map-append (λ (e : Event). entry p.number e.command e.reply) xs ys) in
+      let same : own q.number ys ≡ own p.number ys = ap (λ (n : ℕ). own n ys) h.same.2 in
+      let joined : own p.number xs ++ own q.number ys ≡ own p.number (xs ++ ys) =
+      ap (λ (l : List (Entry Command Reply)). own p.number xs ++ l) same ∙ sym (map-append (λ (e : Event). entry p.number e.command e.reply) xs ys) in
       subst (λ (l : List (Entry Command Reply)). IsExtended lawful setup p r l) joined
-      (extended_more lawful setup p q r (entries_of p.number xs) (entries_of q.number ys) h k)
+      (extended_more lawful setup p q r (own p.number xs) (own q.number ys) h k)
 
   pub makes_then : (spent : Bool) (p q r : PassView Command Reply G) (xs ys : List Event) → Makes lawful setup false p q xs →
       Makes lawful setup spent q r ys → Makes lawful setup spent p r (xs ++ ys)
