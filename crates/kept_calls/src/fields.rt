@@ -9,7 +9,12 @@ use schema_numbers::Numbering;
 use std::alloc::{AllocError, Global};
 
 /// The last header block of a server's side: trailers, behind the fields of each response where they stand alone.
-pub fn last_fields(alloc: Global, n: &Numbering, status: &Status, is_alone: bool) -> Result<Fields, AllocError>
+pub fn last_fields(
+    alloc: Global,
+    n: &Numbering,
+    status: &Status,
+    is_alone: bool,
+) -> Result<Fields, AllocError>
     ensures { IfOk result (λ fields. fields ≡
         (if is_alone then response_fields ++ trailer_fields n.now status.now else trailer_fields n.now status.now)) }
 {
