@@ -1,0 +1,33 @@
+-- What one step of the calls comes to.
+use Rattle.std.specs.Prelude.{◌≡◌, ℕ, Bool, true, List, [], ◌∷◌, Option, Some, None}
+use Rattle.h2_exchange.specs.Events.{Event}
+use Rattle.http_connection.specs.Answers.{GivesEvents}
+use Rattle.http_connection.specs.ConnectionTrace.{ConnectionTrace}
+use Rattle.grpc_stream.specs.declared.event.CallEvent.{CallEvent}
+use Rattle.grpc_stream.specs.CallTrace.{CallTrace, PeerEvent}
+use Rattle.grpc_stream.specs.NextEvent.{AreHidden, NextEvent, ReportsPeerEvents, is_event}
+use Rattle.call_standing.specs.Standing.{Holds, IsRest, State, bare}
+
+-- nothing of what was told is shown
+pub record GoesQuietly (t u : CallTrace) : Type 0 where
+  pub hidden : List PeerEvent
+  pub quiet : AreHidden t.reported hidden
+  pub tells : ReportsPeerEvents t hidden u.connection_trace u
+
+abbrev pub Steps : CallTrace → Option CallEvent → CallTrace → Type 0
+Steps t None u = GoesQuietly t u
+Steps t (Some event) u = NextEvent t event u
+
+-- it is an event, or another step follows
+abbrev pub goes_down : Option CallEvent → Bool
+goes_down None = true
+goes_down (Some event) = is_event event
+
+-- The connection gave an event, which the calls have not taken in.
+pub record HasHeard {C : Type 0} (stands : C → ConnectionTrace → Type 0) (output : C → List ℕ) (conn : C) (s : State) (t : CallTrace) (e : Event) : Type 0 where
+  pub at : ConnectionTrace
+  pub connected : stands conn at
+  pub gives : GivesEvents t.connection_trace (e ∷ []) at
+  pub alive : t.connection_trace.refusal ≡ None
+  pub holds : Holds s (bare t)
+  pub rest : IsRest (bare t)
