@@ -1,0 +1,6 @@
+mod Chains
+mod Own
+mod Steps
+mod Asking
+mod Whole
+mod Runs
