@@ -1,0 +1,5 @@
+//! Tests of workers beside the table, over its lock.
+#![tactic(auto)]
+
+#[cfg(test)]
+mod workers;
