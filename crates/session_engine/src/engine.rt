@@ -1,4 +1,4 @@
-ghost use Rattle.std.specs.Prelude.{◌≡◌, ℕ, [], ◌∷◌, List, Option, Bool, Ok, IfOk, IfErr, IsSome, None, Some, true, false};
+ghost use Rattle.std.specs.Prelude.{◌≡◌, ℕ, [], ◌∷◌, List, Option, Bool, Ok, IfOk, IfErr, IsSome, None, Some, is_some, true, false};
 ghost use Rattle.h2_exchange.specs.Calls.{Call, Begun, Request, Finished};
 ghost use Rattle.grpc_heads.specs.CallEnd.{CallEnd};
 ghost use Rattle.table_lock.specs.Passes.{IsPassOf, IsSound};
@@ -366,6 +366,13 @@ impl SessionEngine {
                 Ok(Step::new(self.alloc))
             }
         }
+    }
+
+    /// Whether a Modify call on the stream has a session, for which results can be collected.
+    pub fn has_session(&self, stream: u32) -> bool
+        ensures { result ≡ is_some (session_in (call_on self.now stream)) }
+    {
+        self.calls.session(stream).is_some()
     }
 
     /// Whether a Get on the stream is still to be given responses.
