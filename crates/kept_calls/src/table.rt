@@ -1,5 +1,5 @@
 //! The calls of a connection, each on its stream.
-ghost use Rattle.std.specs.Prelude.{◌≡◌, ◌==◌, ◌++◌, [], ◌∷◌, OnOk, OnErr};
+ghost use Rattle.std.specs.Prelude.{◌≡◌, ◌==◌, ◌++◌, [], ◌∷◌, IfOk, OnOk, OnErr, length};
 ghost use Rattle.std.specs.List.{position};
 ghost use Rattle.kept_calls.specs.CallState.{state_of, states};
 
@@ -15,6 +15,7 @@ pub fn find_call(calls: &[Call], stream: u32) -> Option<usize>
 
 /// Keeps a call from now on, and tells where it stands.
 pub fn add_call(calls: &mut Vec<Call>, call: Call) -> Result<usize, AllocError>
+    ensures place { IfOk result (λ at. at ≡ length calls.old.items) }
     ensures ok { OnOk result (states calls.new.items ≡ states calls.old.items ++ state_of call ∷ []) }
     ensures err { OnErr result (states calls.new.items ≡ states calls.old.items) }
 {
