@@ -6,7 +6,7 @@ use crate::key::Key;
 use crate::operation::Act;
 
 /// What forwards packets: entries are installed in it and removed from it.
-pub trait Device: Send {
+pub trait Device: Drop {
     ghost use Rattle.aft_entries.specs.Devices.{Acts, CountsAnswer, HasKeysOnce};
 
     /// The entries that it has, in any order, where the device tells them.

@@ -16,7 +16,7 @@ pub enum Accepted<L> {
 }
 
 /// Gives links that others dial, and takes them back.
-pub trait Acceptor: Send {
+pub trait Acceptor {
     /// The links that it gives.
     type Link: Link + Drop;
 

@@ -4,7 +4,7 @@ ghost use Rattle.std.specs.Int.{w64, saturate_signed};
 use std::marker::Model;
 
 /// A clock, whose moments are nanoseconds of which nothing is known.
-pub trait Clock: Send {
+pub trait Clock: Drop {
     /// The moment, in nanoseconds.
     fn now(&mut self) -> i64;
 

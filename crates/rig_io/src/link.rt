@@ -26,7 +26,7 @@ pub enum LinkWrite {
 }
 
 /// A link to another side, whose calls don't wait.
-pub trait Link: Send {
+pub trait Link {
     ghost use Rattle.rig_io.specs.Fault.{HasCause, StaysUnless};
     ghost use Rattle.rig_io.specs.Link.{ReadInBounds, WriteInBounds, PollReads, Receives, Sends};
 
