@@ -1,6 +1,6 @@
 -- How the calls of an engine stand, and what one call of the engine adds: an action of call_orders that is right for the call on a
 -- stream, its entries in the pass, and its items in the step.
-use Rattle.std.specs.Prelude.{◌≡◌, ◌⊎◌, ℕ, ◌==◌, ◌^◌, ◌≤◌, false, map, List, [], ◌∷◌, ◌++◌, Option, Some, None}
+use Rattle.std.specs.Prelude.{◌≡◌, ◌⊎◌, ℕ, ◌==◌, false, true, map, List, [], ◌∷◌, ◌++◌, Option, Some, None}
 use Rattle.std.specs.List.{list_any}
 use Rattle.grpc_heads.specs.CallEnd.{CallEnd}
 use Rattle.grpc_heads.specs.declared.head.Method.{Method}
@@ -8,7 +8,7 @@ use Rattle.h2_exchange.specs.Calls.{Call, Begun, Dropped, Declined}
 use Rattle.h2_exchange.specs.StreamParts.{Item}
 use Rattle.table_lock.specs.declared.machine.Entry.{Entry}
 use Rattle.table_lock.specs.Lock.{entry}
-use Rattle.table_lock.specs.Passes.{PassView, IsExtended}
+use Rattle.table_lock.specs.Passes.{PassView, Makes}
 use Rattle.table_model.specs.declared.command.Command.{Command}
 use Rattle.table_model.specs.declared.reply.Reply.{Reply}
 use Rattle.table_model.specs.Event.{Event}
@@ -79,11 +79,11 @@ own number did = map (λ e. entry number e.command e.reply) did
 module _ {G : Type 0} (lawful : G → List (Entry Command Reply) → Type 0) (setup : G) where
   -- the pass made these entries and no others
   abbrev pub MakesEntries : PassView Command Reply G → PassView Command Reply G → List Event → Type 0
-  MakesEntries p q did = IsExtended lawful setup p q (own p.number did)
+  MakesEntries p q did = Makes lawful setup false p q (own p.number did)
 
   -- the same, and then a call under the lock was Spent
   abbrev pub IsSpentBehind : PassView Command Reply G → PassView Command Reply G → List Event → Type 0
-  IsSpentBehind p q did = (mid : PassView Command Reply G) × MakesEntries p mid did × (q ≡ record mid { ticket = q.ticket }) × (2 ^ 62 ≤ q.ticket)
+  IsSpentBehind p q did = Makes lawful setup true p q (own p.number did)
 
   -- What a call of the engine does for the call on a stream, which stands in a state of `from`: an action with these entries. The step
   -- has the items that are owed more, and says whether a command was answered Stopped.

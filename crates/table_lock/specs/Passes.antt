@@ -1,5 +1,5 @@
 -- What clauses see of a lock, a pass and a note.
-use Rattle.std.specs.Prelude.{◌≡◌, ◌≢◌, ◌⊎◌, ℕ, ◌+◌, ◌^◌, ◌<◌, List, [], ◌∷◌, ◌++◌, length, Option, Some}
+use Rattle.std.specs.Prelude.{◌≡◌, ◌≢◌, ◌⊎◌, ℕ, ◌+◌, ◌^◌, ◌<◌, ◌≤◌, Bool, true, false, List, [], ◌∷◌, ◌++◌, length, Option, Some}
 use mathlib.Core.List.{IsPrefix}
 use mathlib.Core.Option.{some}
 use lib.ListN.{get_elem?}
@@ -62,6 +62,12 @@ module _ {C R G : Type 0} (lawful : G → List (Entry C R) → Type 0) (setup : 
     pub sound : IsSound q
     pub ticket : (q.ticket ≡ p.ticket) ⊎ (q.ticket < 2 ^ 62)
     pub same : (q.table ≡ p.table) × (q.setup ≡ p.setup) × (q.number ≡ p.number)
+
+  -- The pass made these calls and no others: it knows one lawful history, which begins with all that it had seen and has them as its
+  -- next own ones. Where a call behind them was Spent, its ticket is past the last that the lock gives.
+  abbrev pub Makes : Bool → PassView C R G → PassView C R G → List (Entry C R) → Type 0
+  Makes false p q calls = IsExtended p q calls
+  Makes true p q calls = (mid : PassView C R G) × IsExtended p mid calls × (q ≡ record mid { ticket = q.ticket }) × (2 ^ 62 ≤ q.ticket)
 
   -- the call stands at the end of one lawful history, which begins with all that the pass had seen and has its own calls and no others of it
   pub record IsCalled (p q : PassView C R G) (command : C) (reply : R) : Type 0 where

@@ -9,13 +9,13 @@ use Rattle.table_model.specs.declared.reply.Reply.{Reply}
 use Rattle.table_model.specs.declared.reply.Reply.TheVariants as reply
 use Rattle.table_model.specs.Event.{Event}
 use Rattle.table_lock.specs.Lock.{entry}
-use Rattle.table_lock.specs.Passes.{PassView, IsSound}
+use Rattle.table_lock.specs.Passes.{PassView, IsSound, Makes}
 use Rattle.table_lock.proofs.Extends.{extended_none, extended_more}
 use Rattle.rib_core.specs.Recorded.{IsLawful, recorded}
 use Rattle.table_workers.specs.declared.run.WorkerEnd.TheVariants as end
 use Rattle.table_workers.specs.declared.step.Stepped.{Stepped}
 use Rattle.table_workers.specs.declared.step.Stepped.TheVariants.{Programmed, DeviceFailed, Skipped, Idle, Halted, Spent}
-use Rattle.table_workers.specs.Working.{Calls, Contents, KeepsShard, OthersAreApart, AreOfWorker, given_job, IsAhead, Makes, Works, StepCalls, is_spent, Counts, faults_told, SeesNoHalt, RunCalls}
+use Rattle.table_workers.specs.Working.{Calls, Contents, KeepsShard, OthersAreApart, AreOfWorker, given_job, IsAhead, Works, StepCalls, is_spent, Counts, faults_told, SeesNoHalt, RunCalls}
 use Rattle.table_workers.proofs.Chains.{recorded_onto, recorded_append, others_front, others_back}
 use Rattle.table_workers.proofs.Own.{drop_front}
 use Rattle.table_workers.proofs.Whole.{keeps_none, sound_spent, Stepping}
@@ -51,19 +51,19 @@ keeps_both config worker me a b c p q r xs ys one two first second holds others 
 
 module _ (config : Config) where
   -- what calls make of a pass
-  pub makes_number : (spent : Bool) (p q : PassView Command Reply Config) (calls : Calls) → Makes config spent p q calls → q.number ≡ p.number
+  pub makes_number : (spent : Bool) (p q : PassView Command Reply Config) (calls : Calls) → Makes IsLawful config spent p q calls → q.number ≡ p.number
   makes_number false p q calls m = m.same.2
   makes_number true p q calls m = ap (λ (k : PassView Command Reply Config). k.number) m.2 ∙ m.1.same.2
 
-  pub makes_sound : (spent : Bool) (p q : PassView Command Reply Config) (calls : Calls) → Makes config spent p q calls → IsSound IsLawful config q
+  pub makes_sound : (spent : Bool) (p q : PassView Command Reply Config) (calls : Calls) → Makes IsLawful config spent p q calls → IsSound IsLawful config q
   makes_sound false p q calls m = m.sound
   makes_sound true p q calls m = sound_spent config m.0 q m.2 m.1.sound
 
-  makes_seen : (spent : Bool) (p q : PassView Command Reply Config) (calls : Calls) → Makes config spent p q calls → (xs : Calls) × (q.seen ≡ p.seen ++ xs)
+  makes_seen : (spent : Bool) (p q : PassView Command Reply Config) (calls : Calls) → Makes IsLawful config spent p q calls → (xs : Calls) × (q.seen ≡ p.seen ++ xs)
   makes_seen false p q calls m = (m.seen.0, sym m.seen.1)
   makes_seen true p q calls m = (m.1.seen.0, ap (λ (k : PassView Command Reply Config). k.seen) m.2 ∙ sym m.1.seen.1)
 
-  makes_both : (spent : Bool) (p q r : PassView Command Reply Config) (xs ys : Calls) → Makes config false p q xs → Makes config spent q r ys → Makes config spent p r (xs ++ ys)
+  makes_both : (spent : Bool) (p q r : PassView Command Reply Config) (xs ys : Calls) → Makes IsLawful config false p q xs → Makes IsLawful config spent q r ys → Makes IsLawful config spent p r (xs ++ ys)
   makes_both false p q r xs ys a b = extended_more IsLawful config p q r xs ys a b
   makes_both true p q r xs ys a b = (b.0, extended_more IsLawful config p q b.0 xs ys a b.1, b.2, b.3)
 

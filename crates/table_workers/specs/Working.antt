@@ -16,7 +16,7 @@ use Rattle.fib_worker.specs.Doing.{Does}
 use Rattle.fib_worker.specs.Shards.{HoldsShard, IsApart}
 use Rattle.table_lock.specs.declared.machine.Entry as call
 use Rattle.table_lock.specs.Lock.{entry}
-use Rattle.table_lock.specs.Passes.{PassView, IsCalled, IsExtended}
+use Rattle.table_lock.specs.Passes.{PassView, IsCalled, Makes}
 use Rattle.rib_core.specs.Recorded.{IsLawful, event_of, recorded}
 use Rattle.table_workers.specs.declared.run.WorkerEnd.{WorkerEnd}
 use Rattle.table_workers.specs.declared.run.WorkerEnd.TheVariants as end
@@ -68,17 +68,10 @@ abbrev pub IsAhead : Option Job → Contents → Contents → Type 0
 IsAhead None reported now = now ≡ reported
 IsAhead (Some job) reported now = (said : Verdict) × Does said job.work reported now
 
--- The pass made these calls and no others: it knows one lawful history, which begins with all that it had seen and has them as its
--- next own ones. Where a call behind them was Spent, its ticket is past the last that the lock gives.
-abbrev pub Makes : Config → Bool → PassView Command Reply Config → PassView Command Reply Config → Calls → Type 0
-Makes config false p q calls = IsExtended IsLawful config p q calls
-Makes config true p q calls = (mid : PassView Command Reply Config) × IsExtended IsLawful config p mid calls
-    × (q ≡ record mid { ticket = q.ticket }) × (2 ^ 62 ≤ q.ticket)
-
 -- What a worker did over some steps, with these contents of its device before and after. Only where the lock was spent a job is left
 -- that it did and didn't report.
 pub record Works (config : Config) (worker : ℕ) (spent : Bool) (p q : PassView Command Reply Config) (before after : Contents) (calls : Calls) : Type 0 where
-  pub made : Makes config spent p q calls
+  pub made : Makes IsLawful config spent p q calls
   pub left : Option Job
   pub theirs : AreOfWorker worker None calls left
   pub none_left : spent ≡ false → left ≡ None
