@@ -73,8 +73,6 @@ fn scripts_are_printed_as_read(rt: HostRuntime) {
 fn first_fault_is_told(rt: HostRuntime) {
     let alloc = rt.alloc();
     assert!(rt; fails(alloc, b"modify a\njump a", 2, ScriptFaultKind::UnknownWord));
-    assert!(rt; fails(alloc, b"modify a\nfinish", 2, ScriptFaultKind::BadShape));
-    assert!(rt; fails(alloc, b"modify a\nelect a 01", 2, ScriptFaultKind::BadShape));
     assert!(rt;
         fails(
             alloc,
@@ -108,6 +106,13 @@ fn first_fault_is_told(rt: HostRuntime) {
         )
     );
     assert!(rt; fails(alloc, b"modify a\n\xff", 2, ScriptFaultKind::NotUtf8));
+}
+
+#[test]
+fn bad_shape_is_told(rt: HostRuntime) {
+    let alloc = rt.alloc();
+    assert!(rt; fails(alloc, b"modify a\nelect a 01", 2, ScriptFaultKind::BadShape));
+    assert!(rt; fails(alloc, b"modify a\nfinish", 2, ScriptFaultKind::BadShape));
     assert!(rt;
         fails(
             alloc,
