@@ -1,7 +1,7 @@
 //! What is kept of a call while its stream lives.
-ghost use Rattle.std.specs.Prelude.{◌≡◌, ◌<◌, ◌≤◌, ◌^◌, ◌++◌, OnOk, OnErr, length, drop};
+ghost use Rattle.std.specs.Prelude.{◌≡◌, ◌<◌, ◌≤◌, ◌^◌, ◌++◌, OnOk, OnErr, length, drop, sum_by};
 ghost use Rattle.grpc_framing.specs.Framing.{item};
-ghost use Rattle.kept_calls.specs.CallState.{began, closed_by, ended, refused_by, state_of, stopped, with_message, with_piece, with_unsent};
+ghost use Rattle.hpack_tables.specs.EntrySizes.{size_of};
 
 use bytes::{Bytes, BytesMut};
 use grpc_framing::{Cut, MessageCutter};
@@ -48,9 +48,13 @@ pub struct Call {
     pub ending: Ending,
     // the last header block of this side, until it is sent
     pub fields: Fields,
+    // no list that is longer may be sent
+    ghost fits: { sum_by size_of fields ≤ 65536 },
 }
 
 impl Call {
+    ghost use Rattle.kept_calls.specs.CallState.{began, closed_by, ended, refused_by, state_of, stopped, with_message, with_piece, with_unsent};
+
     /// A call of which nothing came and nothing is to be sent.
     pub fn new(alloc: Global, stream: u32, receiving: Receiving, has_head: bool) -> Call
         ensures { state_of result ≡ began stream receiving has_head }
@@ -95,8 +99,10 @@ impl Call {
         }
     }
 
-    /// Takes its end.
+    /// Takes its end, with the last header block that says it, which may have at most 65,536 bytes as RFC 7541, section 4.1,
+    /// counts them.
     pub fn close(&mut self, ending: Ending, fields: Fields)
+        requires { sum_by size_of fields ≤ 65536 }
         ensures { state_of self.new ≡ closed_by ending fields (state_of self.old) }
     {
         self.ending = ending;
@@ -105,6 +111,7 @@ impl Call {
 
     /// Refuses it: nothing more is heard of it, and it ends so unless it has an end.
     pub fn refuse(&mut self, ending: Ending, fields: Fields)
+        requires { sum_by size_of fields ≤ 65536 }
         ensures { state_of self.new ≡ refused_by ending fields (state_of self.old) }
     {
         self.receiving = Receiving::Closed;
