@@ -91,8 +91,8 @@ turn_done t old new d (pump.close _ _ opened none closes) h k =
 -- it stays so, whatever else is sent
 pub done_kept : (c : ConnectionTrace) (fs : List Frame) (lists : List (List Field)) (call : CallState) → ((k : ℕ) → is_begun c.role (c.frames ++ map Sent fs) k ≡ is_begun c.role c.frames k) → IsDone c call → IsDone (wrote fs lists c) call
 done_kept c fs lists call begun_is h = record {
-  full = λ lives some. room_falls c.frames fs call.stream (h.full (live_back c.role c.frames fs begun_is call.stream lives) some);
-  closed = λ lives none k. ended_still c.role c.frames fs begun_is call.stream (h.closed (live_back c.role c.frames fs begun_is call.stream lives) none k);
+  full = λ lives some. room_falls c.frames fs call.stream (h.full (live_back c.role c.frames fs call.stream (begun_is call.stream) lives) some);
+  closed = λ lives none k. ended_still c.frames fs call.stream (h.closed (live_back c.role c.frames fs call.stream (begun_is call.stream) lives) none k);
 }
 
 pub turns_end : TurnsEnd

@@ -3,6 +3,7 @@ pub mod Rounds
 pub mod Moving
 pub mod Joined
 pub mod Moved
+pub mod Begins
 pub mod Kept
 pub mod Spoke
 pub mod Turned

@@ -117,17 +117,18 @@ unless : (a b : Bool) → (a ≡ true → b ≡ true) → b ≡ false → a ≡ 
 unless true b k e = absurd (false≢true (sym e ∙ k refl))
 unless false b k e = refl
 
-module _ (role : Role) (x : List Step) (fs : List Frame) (begun_is : (k : ℕ) → is_begun role (x ++ map Sent fs) k ≡ is_begun role x k) where
-  pub ended_still : (k : ℕ) → is_ended_by (sent x) k ≡ true → is_ended_by (sent (x ++ map Sent fs)) k ≡ true
-  ended_still k e = ap (λ (l : List Frame). is_ended_by l k) (sent_behind x fs) ∙ ended_more (sent x) fs k e
+pub ended_still : (x : List Step) (fs : List Frame) (k : ℕ) → is_ended_by (sent x) k ≡ true → is_ended_by (sent (x ++ map Sent fs)) k ≡ true
+ended_still x fs k e = ap (λ (l : List Frame). is_ended_by l k) (sent_behind x fs) ∙ ended_more (sent x) fs k e
 
-  pub live_back : (k : ℕ) → is_live role (x ++ map Sent fs) k ≡ true → is_live role x k ≡ true
-  live_back k e =
-      ap (λ (b : Bool). b && not (is_over x k)) (sym (begun_is k))
+-- on a stream that these frames do not begin
+module _ (role : Role) (x : List Step) (fs : List Frame) (k : ℕ) (begun_is : is_begun role (x ++ map Sent fs) k ≡ is_begun role x k) where
+  pub live_back : is_live role (x ++ map Sent fs) k ≡ true → is_live role x k ≡ true
+  live_back e =
+      ap (λ (b : Bool). b && not (is_over x k)) (sym begun_is)
       ∙ live_by (is_begun role (x ++ map Sent fs) k) (is_over (x ++ map Sent fs) k) (is_over x k) (unless (is_over x k) (is_over (x ++ map Sent fs) k) (over_stays x (map Sent fs) k)) e
 
-  pub open_back : (k : ℕ) → is_open role (x ++ map Sent fs) k ≡ true → is_open role x k ≡ true
-  open_back k e = open_by (is_live role (x ++ map Sent fs) k) (is_ended_by (sent (x ++ map Sent fs)) k) (is_live role x k) (is_ended_by (sent x) k) (live_back k) (ended_still k) e
+  pub open_back : is_open role (x ++ map Sent fs) k ≡ true → is_open role x k ≡ true
+  open_back e = open_by (is_live role (x ++ map Sent fs) k) (is_ended_by (sent (x ++ map Sent fs)) k) (is_live role x k) (is_ended_by (sent x) k) live_back (ended_still x fs k) e
 
 pub room_falls : (x : List Step) (fs : List Frame) (k : ℕ) → may_send x k ≡ 0 → may_send (x ++ map Sent fs) k ≡ 0
 room_falls x fs k e =

@@ -124,15 +124,15 @@ pub begun_open : (role : Role) (x : List Step) (id : ℕ) → is_open role x id 
 begun_open role x id o = (and_parts _ _ (and_parts _ _ o).0).0
 
 -- What frames add behind these steps, which lead to others.
-record Adds (role : Role) (x y : List Step) (w : List (List Field)) (id : ℕ) (ps : List Part) (n : ℕ) (ends : Bool) : Type 0 where
-  parts_are : (k : ℕ) → parts k w (sent y) ≡ parts k w (sent x) ++ (if id == k then ps else [])
-  spent_is : (k : ℕ) → spent_on k (sent y) ≡ spent_on k (sent x) + (if id == k then n else 0)
-  ended_is : (k : ℕ) → is_ended_by (sent y) k ≡ (is_ended_by (sent x) k || (ends && id == k))
-  begun_is : (k : ℕ) → is_begun role y k ≡ is_begun role x k
-  list_is : begun role y ≡ begun role x
+pub record Adds (role : Role) (x y : List Step) (w : List (List Field)) (id : ℕ) (ps : List Part) (n : ℕ) (ends : Bool) : Type 0 where
+  pub parts_are : (k : ℕ) → parts k w (sent y) ≡ parts k w (sent x) ++ (if id == k then ps else [])
+  pub spent_is : (k : ℕ) → spent_on k (sent y) ≡ spent_on k (sent x) + (if id == k then n else 0)
+  pub ended_is : (k : ℕ) → is_ended_by (sent y) k ≡ (is_ended_by (sent x) k || (ends && id == k))
+  pub begun_is : (k : ℕ) → is_begun role y k ≡ is_begun role x k
+  pub list_is : begun role y ≡ begun role x
 
 -- frames of a header block that isn't completed yet
-abbrev is_block : Frame → Bool
+abbrev pub is_block : Frame → Bool
 is_block (Headers b) = true
 is_block (Continuation b) = true
 is_block other = false
@@ -159,28 +159,37 @@ no_reset (Headers b) is = refl
 no_reset (Continuation b) is = refl
 no_reset other is = absurd cc
 
-none_if : (t : Bool) → ◌≡◌ {A = ℕ} (if t then 0 else 0) 0
+pub none_if : (t : Bool) → ◌≡◌ {A = ℕ} (if t then 0 else 0) 0
 none_if true = refl
 none_if false = refl
 
-empty_if : (t : Bool) → ◌≡◌ {A = List Part} (if t then [] else []) []
+pub empty_if : (t : Bool) → ◌≡◌ {A = List Part} (if t then [] else []) []
 empty_if true = refl
 empty_if false = refl
+
+-- a frame of a header block, whatever stream it begins
+module _ (x : List Step) (w : List (List Field)) (f : Frame) (is : is_block f ≡ true) (o : Option Block) (done : completed (sent x) f ≡ o) (k : ℕ) where
+  pub block_parts : parts k w (sent (x ++ Sent f ∷ [])) ≡ parts k w (sent x) ++ block_part k w (sent x) o
+  block_parts =
+      ap (parts k w) (sent_push x f) ∙ collect_push (part_of k w) (sent x) f
+      ∙ ap (λ (qs : List Part). parts k w (sent x) ++ qs) (part_of_block k w (sent x) f is ∙ ap (block_part k w (sent x)) done)
+
+  pub block_spent : spent_on k (sent (x ++ Sent f ∷ [])) ≡ spent_on k (sent x)
+  block_spent = omega (arith, ap (spent_on k) (sent_push x f), window_sums_grow.spent_on_push k (sent x) f, nothing_counted f (stream_of f == k) is)
+
+  pub block_ended : is_ended_by (sent (x ++ Sent f ∷ [])) k ≡ (is_ended_by (sent x) k || list_any (is_last_on k) (option_to_list o))
+  block_ended =
+      ap (λ (fs : List Frame). is_ended_by fs k) (sent_push x f)
+      ∙ ended_from (sent x) f k false (list_any (is_last_on k) (option_to_list o)) (no_data k f is) (ap (λ (d : Option Block). list_any (is_last_on k) (option_to_list d)) done)
 
 module _ (role : Role) (x : List Step) (w : List (List Field)) (id : ℕ) (f : Frame) (on : stream_of f ≡ id) (begun : is_begun role x id ≡ true) (is : is_block f ≡ true) where
   -- it completes no block, or one of this stream
   block_adds : (o : Option Block) → completed (sent x) f ≡ o → (ps : List Part) (ends : Bool) → ((k : ℕ) → block_part k w (sent x) o ≡ (if id == k then ps else [])) →
       ((k : ℕ) → list_any (is_last_on k) (option_to_list o) ≡ (ends && id == k)) → Adds role x (x ++ Sent f ∷ []) w id ps 0 ends
   block_adds o done ps ends part last = record {
-    parts_are = λ k.
-        ap (parts k w) (sent_push x f) ∙ collect_push (part_of k w) (sent x) f
-        ∙ ap (λ (qs : List Part). parts k w (sent x) ++ qs) (part_of_block k w (sent x) f is ∙ ap (block_part k w (sent x)) done ∙ part k);
-    spent_is = λ k.
-        ap (spent_on k) (sent_push x f) ∙ window_sums_grow.spent_on_push k (sent x) f
-        ∙ ap (λ (n : ℕ). spent_on k (sent x) + n) (nothing_counted f (stream_of f == k) is ∙ sym (none_if (id == k)));
-    ended_is = λ k.
-        ap (λ (fs : List Frame). is_ended_by fs k) (sent_push x f)
-        ∙ ended_from (sent x) f k false (ends && id == k) (no_data k f is) (ap (λ (d : Option Block). list_any (is_last_on k) (option_to_list d)) done ∙ last k);
+    parts_are = λ k. block_parts x w f is o done k ∙ ap (λ (qs : List Part). parts k w (sent x) ++ qs) (part k);
+    spent_is = λ k. omega (arith, block_spent x w f is o done k, none_if (id == k));
+    ended_is = λ k. block_ended x w f is o done k ∙ ap (λ (b : Bool). is_ended_by (sent x) k || b) (last k);
     begun_is = λ k. begun_on role x f id k on begun;
     list_is = list_on role x f id on begun;
   }
@@ -197,58 +206,66 @@ adds_more role x y z w id ps n ends p q = record {
 -- ---- a header block
 
 -- its frames, which complete it
-record Completes (role : Role) (x : List Step) (w : List (List Field)) (id : ℕ) (last : Bool) (fs : List Frame) : Type 0 where
-  carried : AreCarried role x fs
-  adds : Adds role x (x ++ map Sent fs) w id (read_part last (slice_get w (length (blocks (sent x))))) 0 last
-  opened : open_block (sent (x ++ map Sent fs)) ≡ None
-  count : length (blocks (sent (x ++ map Sent fs))) ≡ suc (length (blocks (sent x)))
+pub record Completes (role : Role) (x : List Step) (w : List (List Field)) (id : ℕ) (last : Bool) (fs : List Frame) : Type 0 where
+  pub carried : is_open role x id ≡ true → AreCarried role x fs
+  pub adds : Adds role x (x ++ map Sent fs) w id (read_part last (slice_get w (length (blocks (sent x))))) 0 last
+  pub opened : open_block (sent (x ++ map Sent fs)) ≡ None
+  pub count : length (blocks (sent (x ++ map Sent fs))) ≡ suc (length (blocks (sent x)))
 
-abbrev going : ℕ → Bool → List ℕ → ℕ → Block
+abbrev pub going : ℕ → Bool → List ℕ → ℕ → Block
 going id last text n = record { stream = id; last = last; text = text; frames = n }
 
-flag_is : (f : Frame) (n : ℕ) (t : Bool) → (body_of f).flags ≡ n → not (bit_and n 4 == 0) ≡ t → has_end_headers f ≡ t
+pub flag_is : (f : Frame) (n : ℕ) (t : Bool) → (body_of f).flags ≡ n → not (bit_and n 4 == 0) ≡ t → has_end_headers f ≡ t
 flag_is f n t same e = ap (λ (m : ℕ). not (bit_and m 4 == 0)) same ∙ e
 
-last_is : (f : Frame) (n : ℕ) (t : Bool) → (body_of f).flags ≡ n → not (bit_and n 1 == 0) ≡ t → has_end_stream f ≡ t
+pub last_is : (f : Frame) (n : ℕ) (t : Bool) → (body_of f).flags ≡ n → not (bit_and n 1 == 0) ≡ t → has_end_stream f ≡ t
 last_is f n t same e = ap (λ (m : ℕ). not (bit_and m 1 == 0)) same ∙ e
 
-alone_ends : (last : Bool) → not (bit_and (last_flag last + 4) 4 == 0) ≡ true
+pub alone_ends : (last : Bool) → not (bit_and (last_flag last + 4) 4 == 0) ≡ true
 alone_ends true = refl
 alone_ends false = refl
 
-alone_last : (last : Bool) → not (bit_and (last_flag last + 4) 1 == 0) ≡ last
+pub alone_last : (last : Bool) → not (bit_and (last_flag last + 4) 1 == 0) ≡ last
 alone_last true = refl
 alone_last false = refl
 
-first_goes : (last : Bool) → not (bit_and (last_flag last) 4 == 0) ≡ false
+pub first_goes : (last : Bool) → not (bit_and (last_flag last) 4 == 0) ≡ false
 first_goes true = refl
 first_goes false = refl
 
-first_last : (last : Bool) → not (bit_and (last_flag last) 1 == 0) ≡ last
+pub first_last : (last : Bool) → not (bit_and (last_flag last) 1 == 0) ≡ last
 first_last true = refl
 first_last false = refl
 
-done_by : (o p : Option Block) (f : Frame) → block_with o f ≡ p → has_end_headers f ≡ true → completed_by o f ≡ p
+pub done_by : (o p : Option Block) (f : Frame) → block_with o f ≡ p → has_end_headers f ≡ true → completed_by o f ≡ p
 done_by o p f with_it ends = ap (λ (t : Bool). if t then block_with o f else None) ends ∙ with_it
 
-left_by : (o p : Option Block) (f : Frame) → block_with o f ≡ p → has_end_headers f ≡ false → left_open o f ≡ p
+pub left_by : (o p : Option Block) (f : Frame) → block_with o f ≡ p → has_end_headers f ≡ false → left_open o f ≡ p
 left_by o p f with_it ends = ap (λ (t : Bool). if t then None else block_with o f) ends ∙ with_it
 
-none_done : (o : Option Block) (f : Frame) → has_end_headers f ≡ false → completed_by o f ≡ None
+pub none_done : (o : Option Block) (f : Frame) → has_end_headers f ≡ false → completed_by o f ≡ None
 none_done o f ends = ap (λ (t : Bool). if t then block_with o f else None) ends
 
-none_left : (o : Option Block) (f : Frame) → has_end_headers f ≡ true → left_open o f ≡ None
+pub none_left : (o : Option Block) (f : Frame) → has_end_headers f ≡ true → left_open o f ≡ None
 none_left o f ends = ap (λ (t : Bool). if t then None else block_with o f) ends
+
+abbrev pub head_of : ℕ → List ℕ → ℕ
+head_of d [] = d
+head_of d (n ∷ ns) = n
+
+abbrev pub tail_of : List ℕ → List ℕ
+tail_of [] = []
+tail_of (n ∷ ns) = ns
 
 module _ (role : Role) (w : List (List Field)) (id : ℕ) (last : Bool) where
   -- the frame that completes the block
-  last_frame : (x : List Step) (f : Frame) (text : List ℕ) (n : ℕ) → stream_of f ≡ id → is_block f ≡ true → is_open role x id ≡ true → IsCarried role x f → has_end_headers f ≡ true →
+  last_frame : (x : List Step) (f : Frame) (text : List ℕ) (n : ℕ) → stream_of f ≡ id → is_block f ≡ true → is_begun role x id ≡ true → (is_open role x id ≡ true → IsCarried role x f) → has_end_headers f ≡ true →
       block_with (open_block (sent x)) f ≡ Some (going id last text n) → Completes role x w id last (f ∷ [])
-  last_frame x f text n on is o carries ends behind =
+  last_frame x f text n on is begun carries ends behind =
       let done : completed (sent x) f ≡ Some (going id last text n) = done_by (open_block (sent x)) _ f behind ends in
       record {
-        carried = (carries, tt);
-        adds = block_adds role x w id f on (begun_open role x id o) is (Some (going id last text n)) done (read_part last (slice_get w (length (blocks (sent x))))) last (λ k. refl) (λ k. or_nothing (last && id == k));
+        carried = λ o. (carries o, tt);
+        adds = block_adds role x w id f on begun is (Some (going id last text n)) done (read_part last (slice_get w (length (blocks (sent x))))) last (λ k. refl) (λ k. or_nothing (last && id == k));
         opened = ap open_block (sent_push x f) ∙ header_blocks_grow.open_push (sent x) f ∙ none_left (open_block (sent x)) f ends;
         count =
             let grown = ap (λ (fs : List Frame). length (blocks fs)) (sent_push x f) in
@@ -258,14 +275,12 @@ module _ (role : Role) (w : List (List Field)) (id : ℕ) (last : Bool) where
       }
 
   -- a frame that another one of the block follows
-  next_frame : (x : List Step) (f : Frame) (fs : List Frame) → stream_of f ≡ id → is_block f ≡ true → is_open role x id ≡ true → IsCarried role x f → has_end_headers f ≡ false →
-      (is_open role (x ++ Sent f ∷ []) id ≡ true → open_block (sent (x ++ Sent f ∷ [])) ≡ block_with (open_block (sent x)) f → Completes role (x ++ Sent f ∷ []) w id last fs) → Completes role x w id last (f ∷ fs)
-  next_frame x f fs on is o carries ends later =
-      let begun = begun_open role x id o in
+  next_frame : (x : List Step) (f : Frame) (fs : List Frame) → stream_of f ≡ id → is_block f ≡ true → is_begun role x id ≡ true → (is_open role x id ≡ true → IsCarried role x f) → has_end_headers f ≡ false →
+      (is_begun role (x ++ Sent f ∷ []) id ≡ true → open_block (sent (x ++ Sent f ∷ [])) ≡ block_with (open_block (sent x)) f → Completes role (x ++ Sent f ∷ []) w id last fs) → Completes role x w id last (f ∷ fs)
+  next_frame x f fs on is begun carries ends later =
       let done : completed (sent x) f ≡ None = none_done (open_block (sent x)) f ends in
       let one = block_adds role x w id f on begun is None done [] false (λ k. sym (empty_if (id == k))) (λ k. refl) in
-      let still : is_open role (x ++ Sent f ∷ []) id ≡ true =
-      open_same role x f id (one.begun_is id) (no_reset f is) (one.ended_is id ∙ or_nothing (is_ended_by (sent x) id)) ∙ o in
+      let still : is_begun role (x ++ Sent f ∷ []) id ≡ true = one.begun_is id ∙ begun in
       let left : open_block (sent (x ++ Sent f ∷ [])) ≡ block_with (open_block (sent x)) f =
       ap open_block (sent_push x f) ∙ header_blocks_grow.open_push (sent x) f ∙ left_by (open_block (sent x)) _ f refl ends in
       let rest = later still left in
@@ -273,7 +288,7 @@ module _ (role : Role) (w : List (List Field)) (id : ℕ) (last : Bool) where
       let as_many : blocks (sent (x ++ Sent f ∷ [])) ≡ blocks (sent x) =
       ap blocks (sent_push x f) ∙ header_blocks_grow.blocks_push (sent x) f ∙ ap (λ (d : Option Block). blocks (sent x) ++ option_to_list d) done ∙ append-nil (blocks (sent x)) in
       record {
-        carried = (carries, rest.carried);
+        carried = λ o. (carries o, rest.carried (open_same role x f id (one.begun_is id) (no_reset f is) (one.ended_is id ∙ or_nothing (is_ended_by (sent x) id)) ∙ o));
         adds = subst (λ (bs : List Block). Adds role x (x ++ Sent f ∷ map Sent fs) w id (read_part last (slice_get w (length bs))) 0 last) as_many
             (subst (λ (y : List Step). Adds role x y w id (read_part last (slice_get w (length (blocks (sent (x ++ Sent f ∷ [])))))) 0 last) split
             (adds_more role x (x ++ Sent f ∷ []) ((x ++ Sent f ∷ []) ++ map Sent fs) w id _ 0 last one rest.adds));
@@ -281,48 +296,40 @@ module _ (role : Role) (w : List (List Field)) (id : ℕ) (last : Bool) where
         count = subst (λ (y : List Step). length (blocks (sent y)) ≡ suc (length (blocks (sent x)))) split (rest.count ∙ ap (λ (bs : List Block). suc (length bs)) as_many);
       }
 
-  abbrev head_of : ℕ → List ℕ → ℕ
-  head_of d [] = d
-  head_of d (n ∷ ns) = n
-
-  abbrev tail_of : List ℕ → List ℕ
-  tail_of [] = []
-  tail_of (n ∷ ns) = ns
-
   -- CONTINUATION frames, the last of which completes the block
-  others_complete : (c : FrameBody) (cs : List FrameBody) (x : List Step) (text : List ℕ) (n : ℕ) → open_block (sent x) ≡ Some (going id last text n) → is_open role x id ≡ true →
+  pub others_complete : (c : FrameBody) (cs : List FrameBody) (x : List Step) (text : List ℕ) (n : ℕ) → open_block (sent x) ≡ Some (going id last text n) → is_begun role x id ≡ true →
       map (λ (b : FrameBody). b.flags) (c ∷ cs) ≡ replicate (length cs) 0 ++ 4 ∷ [] → All (λ (b : FrameBody). b.stream ≡ id) (c ∷ cs) → Completes role x w id last (map Continuation (c ∷ cs))
-  others_complete c [] x text n opened o flags streams =
+  others_complete c [] x text n opened begun flags streams =
       let on : c.stream ≡ id = All-head (λ (b : FrameBody). b.stream ≡ id) c [] streams in
-      last_frame x (Continuation c) (text ++ c.payload) (n + 1) on refl o (ap (is_open role x) on ∙ o) (flag_is (Continuation c) 4 true (ap (head_of 0) flags) refl) (ap (λ (b : Option Block). block_with b (Continuation c)) opened)
-  others_complete c (d ∷ ds) x text n opened o flags streams =
+      last_frame x (Continuation c) (text ++ c.payload) (n + 1) on refl begun (λ o. ap (is_open role x) on ∙ o) (flag_is (Continuation c) 4 true (ap (head_of 0) flags) refl) (ap (λ (b : Option Block). block_with b (Continuation c)) opened)
+  others_complete c (d ∷ ds) x text n opened begun flags streams =
       let on : c.stream ≡ id = All-head (λ (b : FrameBody). b.stream ≡ id) c (d ∷ ds) streams in
-      next_frame x (Continuation c) (map Continuation (d ∷ ds)) on refl o (ap (is_open role x) on ∙ o) (flag_is (Continuation c) 0 false (ap (head_of 0) flags) refl)
+      next_frame x (Continuation c) (map Continuation (d ∷ ds)) on refl begun (λ o. ap (is_open role x) on ∙ o) (flag_is (Continuation c) 0 false (ap (head_of 0) flags) refl)
       (λ still left. others_complete d ds (x ++ Sent (Continuation c) ∷ []) (text ++ c.payload) (n + 1) (left ∙ ap (λ (b : Option Block). block_with b (Continuation c)) opened) still (ap tail_of flags)
       (All-tail (λ (b : FrameBody). b.stream ≡ id) c (d ∷ ds) streams))
 
-  completes : (first : FrameBody) (others : List FrameBody) (x : List Step) → open_block (sent x) ≡ None → is_open role x id ≡ true →
+  completes : (first : FrameBody) (others : List FrameBody) (x : List Step) → open_block (sent x) ≡ None → is_begun role x id ≡ true →
       map (λ (b : FrameBody). b.flags) (first ∷ others) ≡ block_flags last (length others) → All (λ (b : FrameBody). b.stream ≡ id) (first ∷ others) → Completes role x w id last (Headers first ∷ map Continuation others)
-  completes first [] x opened o flags streams =
+  completes first [] x opened begun flags streams =
       let on : first.stream ≡ id = All-head (λ (b : FrameBody). b.stream ≡ id) first [] streams in
       let are : first.flags ≡ last_flag last + 4 = ap (head_of 0) flags in
-      last_frame x (Headers first) (fragment_of (Headers first)) 1 on refl o (ap (is_open role x) on ∙ o) (flag_is (Headers first) (last_flag last + 4) true are (alone_ends last))
+      last_frame x (Headers first) (fragment_of (Headers first)) 1 on refl begun (λ o. ap (is_open role x) on ∙ o) (flag_is (Headers first) (last_flag last + 4) true are (alone_ends last))
       (ap (λ (b : Option Block). block_with b (Headers first)) opened
       ∙ ap (λ (s : ℕ). Some (going s (has_end_stream (Headers first)) (fragment_of (Headers first)) 1)) on ∙ ap (λ (b : Bool). Some (going id b (fragment_of (Headers first)) 1)) (last_is (Headers first) (last_flag last + 4) last are (alone_last last)))
-  completes first (c ∷ cs) x opened o flags streams =
+  completes first (c ∷ cs) x opened begun flags streams =
       let on : first.stream ≡ id = All-head (λ (b : FrameBody). b.stream ≡ id) first (c ∷ cs) streams in
       let are : first.flags ≡ last_flag last = ap (head_of 0) flags in
-      next_frame x (Headers first) (map Continuation (c ∷ cs)) on refl o (ap (is_open role x) on ∙ o) (flag_is (Headers first) (last_flag last) false are (first_goes last))
+      next_frame x (Headers first) (map Continuation (c ∷ cs)) on refl begun (λ o. ap (is_open role x) on ∙ o) (flag_is (Headers first) (last_flag last) false are (first_goes last))
       (λ still left. others_complete c cs (x ++ Sent (Headers first) ∷ []) (fragment_of (Headers first)) 1
       (left ∙ ap (λ (b : Option Block). block_with b (Headers first)) opened
       ∙ ap (λ (s : ℕ). Some (going s (has_end_stream (Headers first)) (fragment_of (Headers first)) 1)) on ∙ ap (λ (b : Bool). Some (going id b (fragment_of (Headers first)) 1)) (last_is (Headers first) (last_flag last) last are (first_last last)))
       still (ap tail_of flags) (All-tail (λ (b : FrameBody). b.stream ≡ id) first (c ∷ cs) streams))
 
-moved : (role : Role) (x : List Step) (w : List (List Field)) (id : ℕ) (last : Bool) (fields : List Field) (fs : List Frame) → IsReady x w → Completes role x (w ++ fields ∷ []) id last fs → Moves role x w id (Fields fields last ∷ []) 0 last fs (fields ∷ [])
-moved role x w id last fields fs ready h =
+moved : (role : Role) (x : List Step) (w : List (List Field)) (id : ℕ) (last : Bool) (fields : List Field) (fs : List Frame) → IsReady x w → is_open role x id ≡ true → Completes role x (w ++ fields ∷ []) id last fs → Moves role x w id (Fields fields last ∷ []) 0 last fs (fields ∷ [])
+moved role x w id last fields fs ready o h =
     let got : slice_get (w ++ fields ∷ []) (length (blocks (sent x))) ≡ Some fields = get_next w fields [] (length (blocks (sent x))) ready.0 in
     record {
-      carried = h.carried;
+      carried = h.carried o;
       parts_are = λ k.
           h.adds.parts_are k
           ∙ ap (λ (o : Option (List Field)). parts k (w ++ fields ∷ []) (sent x) ++ (if id == k then read_part last o else [])) got
@@ -337,8 +344,8 @@ moved role x w id last fields fs ready h =
 pub block_moves : (role : Role) (x : List Step) (w : List (List Field)) (id : ℕ) (last : Bool) (fields : List Field) (fs : List Frame) → IsReady x w → is_open role x id ≡ true → CarryBlock id last fs →
     Moves role x w id (Fields fields last ∷ []) 0 last fs (fields ∷ [])
 block_moves role x w id last fields fs ready o h =
-    moved role x w id last fields fs ready
-    (subst (Completes role x (w ++ fields ∷ []) id last) (sym h.frames_are) (completes role (w ++ fields ∷ []) id last h.first h.others x ready.1 o h.flags_are h.streams_are))
+    moved role x w id last fields fs ready o
+    (subst (Completes role x (w ++ fields ∷ []) id last) (sym h.frames_are) (completes role (w ++ fields ∷ []) id last h.first h.others x ready.1 (begun_open role x id o) h.flags_are h.streams_are))
 
 -- ---- DATA
 

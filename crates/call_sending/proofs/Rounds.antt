@@ -1,20 +1,14 @@
 -- Rounds of turns, one after another.
 use Rattle.std.proofs.Common.{◌≡◌, ℕ, ◌+◌, ◌<◌, ◌≤◌, ◌||◌, length, map, take, drop, set, get_or, Bool, true, false, List, [], ◌∷◌, ◌++◌, refl, sym, ap, subst, ◌∙◌, append_assoc, arith}
-use Rattle.std.specs.List.{All}
 use Rattle.std.proofs.lemmas.List.{append-nil, at_drop_all, at_drop_more, get_or-map, get_or_at, length-append, length-map, map-set, set-get_or, set_at, take_all, take_more}
-use Rattle.std.proofs.lemmas.List.Elements.{All-nil, All-cons, All-head, All-tail}
+use Rattle.std.proofs.lemmas.List.Sums.{sum_by-set}
 use Rattle.http_connection.specs.ConnectionTrace.{ConnectionTrace}
 use Rattle.grpc_framing.specs.CutterState.{CutterState}
 use Rattle.kept_calls.specs.declared.call.Call.{Call}
 use Rattle.kept_calls.specs.CallState.{CallState, state_of, states}
 use Rattle.call_sending.specs.Pumping as pump
-use Rattle.call_sending.specs.Pumping.{AreFit, IsFit, PumpsCall, PumpsCalls, PumpsRound, WentOn, cutters_of}
-use Rattle.call_sending.proofs.Turning.{call_lessens, round_push, round_went, went_more, went_none}
-
-pub round_fits : (c : ConnectionTrace) (olds : List CallState) (g : Bool) (news : List CallState) (d : ConnectionTrace) → PumpsRound c olds g news d → All IsFit olds → All IsFit news
-round_fits c _ _ _ _ (pump.none _) fit = All-nil IsFit
-round_fits c _ _ _ d (pump.more _ at _ old new olds news first later h rest) fit =
-    All-cons IsFit new news ((call_lessens c old first new at h).fits (All-head IsFit old olds fit)) (round_fits at olds later news d rest (All-tail IsFit old olds fit))
+use Rattle.call_sending.specs.Pumping.{Lessens, PumpsCall, PumpsCalls, PumpsRound, WentOn, cutters_of, left_in}
+use Rattle.call_sending.proofs.Turning.{round_push, round_went, went_more, went_none}
 
 -- rounds that lead to what later rounds make whole
 pub record Leads (c : ConnectionTrace) (olds : List CallState) (at : ConnectionTrace) (mids : List CallState) : Type 0 where
@@ -67,9 +61,6 @@ module _ (at : ℕ) (c : ConnectionTrace) (olds : List CallState) (g : Bool) (no
       subst (λ (r : List CallState). PumpsRound c olds g r d) (sym (h.now_is ∙ at_drop_all (λ (r : List CallState). h.news ++ r) olds at le ∙ append-nil h.news))
       (subst (λ (r : List CallState). PumpsRound c r g h.news d) (take_all at olds le) h.round)
 
-  pub here_fits : (old : CallState) → at < length olds → old ≡ get_or now at old → AreFit olds → IsFit old
-  here_fits old l is fit = subst IsFit (sym (is ∙ here_is old l)) (fit at old l)
-
   pub went_so_far : WentOn c d
   went_so_far = round_went c (take at olds) g h.news d h.round
 
@@ -91,3 +82,23 @@ cutters_kept items at old new l is same =
     ap cutter (seen items at old l is) ∙ sym (get_or-map cutter (states items) at (state_of old) old.cutter (omega (arith, l, as_many items))) in
     ap (map cutter) (map-set state_of items at new) ∙ map-set cutter (states items) at (state_of new)
     ∙ ap (set (map cutter (states items)) at) (same ∙ was) ∙ set-get_or (map cutter (states items)) at old.cutter
+
+either_less : (g f : Bool) (first was now old new : ℕ) → now + old ≡ was + new → Lessens g first was → Lessens f old new → (g || f) ≡ true → now < first
+either_less true f first was now old new sum before turn e = omega (arith, before.less refl, turn.least, sum)
+either_less false f first was now old new sum before turn e = omega (arith, before.least, turn.less e, sum)
+
+-- One call had its turn, and no call has more left.
+pub turn_lessens : (items : List Call) (at : ℕ) (old new : Call) (g f : Bool) (first : ℕ) → at < length items → old ≡ get_or items at old → Lessens g first (left_in (states items)) →
+    Lessens f (length old.unsent.items) (length new.unsent.items) → Lessens (g || f) first (left_in (states (set items at new)))
+turn_lessens items at old new g f first l is before turn =
+    let bytes : CallState → ℕ = λ c. length c.unsent in
+    let sum : left_in (states (set items at new)) + length old.unsent.items ≡ left_in (states items) + length new.unsent.items = omega (
+      arith,
+      ap left_in (map-set state_of items at new),
+      sum_by-set bytes (states items) at (state_of new) (state_of old) (omega (arith, l, as_many items)),
+      ap bytes (seen items at old l is),
+    ) in
+    record {
+      least = omega (arith, before.least, turn.least, sum);
+      less = either_less g f first (left_in (states items)) (left_in (states (set items at new))) (length old.unsent.items) (length new.unsent.items) sum before turn;
+    }

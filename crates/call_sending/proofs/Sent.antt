@@ -8,10 +8,10 @@ use Rattle.h2_frames.specs.declared.frame.Frame.{Frame}
 use Rattle.h2_frames.specs.declared.frame.Frame.TheVariants.{Content, Headers, RstStream, Continuation}
 use Rattle.h2_exchange.specs.declared.role.Role.{Role}
 use Rattle.h2_exchange.specs.declared.role.Role.TheVariants.{Client, Server}
-use Rattle.h2_exchange.specs.Blocks.{Block, block_with, blocks, completed, open_block}
+use Rattle.h2_exchange.specs.Blocks.{Block, block_with, blocks, completed, data_of, open_block}
 use Rattle.h2_exchange.specs.Exchange.{Step, Sent, sent}
 use Rattle.h2_exchange.specs.Frames.{code_of, counted, has_end_headers, has_end_stream, is_data, is_headers, is_rst_stream, stream_of}
-use Rattle.h2_exchange.specs.StreamParts.{Part, Stopped, block_part, part_of, parts}
+use Rattle.h2_exchange.specs.StreamParts.{Part, Piece, Stopped, block_part, part_of, parts}
 use Rattle.h2_exchange.specs.Streams.{begins, begun, highest, is_begun, is_ended_by, is_last_on, is_new, is_odd, is_open}
 use Rattle.h2_exchange.specs.Windows.{spent_on}
 use Rattle.h2_exchange.proofs.Looking.{collect_push, or_nothing}
@@ -26,17 +26,31 @@ use Rattle.call_sending.proofs.Moving.{ended_from}
 abbrev pub is_plain : Frame → Bool
 is_plain f = is_control f || is_rst_stream f
 
+pub control_is_plain : (f : Frame) → is_control f ≡ true → is_plain f ≡ true
+control_is_plain f is = ap (λ (b : Bool). b || is_rst_stream f) is
+
+pub reset_is_plain : (f : Frame) → is_rst_stream f ≡ true → is_plain f ≡ true
+reset_is_plain f is = ap (λ (b : Bool). is_control f || b) is ∙ either (is_control f)
+  where
+    either : (a : Bool) → (a || true) ≡ true
+    either true = refl
+    either false = refl
+
+pub control_no_reset : (f : Frame) → is_control f ≡ true → is_rst_stream f ≡ false
+control_no_reset (RstStream b) is = absurd cc
+control_no_reset other is = refl
+
 pub no_block : (f : Frame) → is_plain f ≡ true → block_with None f ≡ None
 no_block (Content b) is = refl
 no_block (Headers b) is = absurd cc
 no_block (Continuation b) is = refl
 no_block other is = refl
 
-no_headers : (f : Frame) → is_plain f ≡ true → is_headers f ≡ false
+pub no_headers : (f : Frame) → is_plain f ≡ true → is_headers f ≡ false
 no_headers (Headers b) is = absurd cc
 no_headers other is = refl
 
-no_data : (f : Frame) → is_plain f ≡ true → is_data f ≡ false
+pub no_data : (f : Frame) → is_plain f ≡ true → is_data f ≡ false
 no_data (Content b) is = absurd cc
 no_data other is = refl
 
@@ -57,8 +71,8 @@ module _ (past : List Frame) (f : Frame) (closed : open_block past ≡ None) (is
   pub none_done : completed past f ≡ None
   none_done = none_either (has_end_headers f) (block_with (open_block past) f) (ap (λ (o : Option Block). block_with o f) closed ∙ no_block f is)
 
-  pub none_open : open_block (past ++ f ∷ []) ≡ None
-  none_open = header_blocks_grow.open_push past f ∙ none_else (has_end_headers f) (block_with (open_block past) f) (ap (λ (o : Option Block). block_with o f) closed ∙ no_block f is)
+  pub still_closed : open_block (past ++ f ∷ []) ≡ None
+  still_closed = header_blocks_grow.open_push past f ∙ none_else (has_end_headers f) (block_with (open_block past) f) (ap (λ (o : Option Block). block_with o f) closed ∙ no_block f is)
 
   pub blocks_same : blocks (past ++ f ∷ []) ≡ blocks past
   blocks_same = header_blocks_grow.blocks_push past f ∙ ap (λ (o : Option Block). blocks past ++ option_to_list o) none_done ∙ append-nil (blocks past)
@@ -71,37 +85,30 @@ module _ (past : List Frame) (f : Frame) (closed : open_block past ≡ None) (is
       ended_from past f id false false (ap (λ (b : Bool). (b && has_end_stream f && stream_of f == id) || false) (no_data f is)) (ap (λ (o : Option Block). list_any (is_last_on id) (option_to_list o)) none_done)
       ∙ or_nothing (is_ended_by past id)
 
+-- ---- what stands on a stream
+
 abbrev pub stopped_on : ℕ → Frame → List Part
 stopped_on id f = if stream_of f == id then Stopped (code_of f) ∷ [] else []
 
-control_part : (id : ℕ) (heads : List (List Field)) (past : List Frame) (f : Frame) → is_control f ≡ true → part_of id heads past f ≡ block_part id heads past (completed past f)
-control_part id heads past (Content b) is = absurd cc
-control_part id heads past (RstStream b) is = absurd cc
-control_part id heads past other is = refl
+module _ (past : List Frame) (f : Frame) (closed : open_block past ≡ None) (is : is_plain f ≡ true) (id : ℕ) (heads : List (List Field)) where
+  part_is : part_of id heads past f ≡ (if is_rst_stream f && stream_of f == id then Stopped (code_of f) ∷ [] else [])
+  part_is =
+      ap (λ (a : Bool). if a && stream_of f == id then Piece (data_of f) (has_end_stream f) ∷ [] else if is_rst_stream f && stream_of f == id then Stopped (code_of f) ∷ [] else block_part id heads past (completed past f)) (no_data f is)
+      ∙ ap (λ (o : Option Block). if is_rst_stream f && stream_of f == id then Stopped (code_of f) ∷ [] else block_part id heads past o) (none_done past f closed is)
 
-reset_part : (id : ℕ) (heads : List (List Field)) (past : List Frame) (f : Frame) → is_rst_stream f ≡ true → part_of id heads past f ≡ (if stream_of f == id then Stopped (code_of f) ∷ [] else block_part id heads past (completed past f))
-reset_part id heads past (RstStream b) is = refl
-reset_part id heads past other is = absurd cc
+  adds : (b : Bool) → (is_rst_stream f && stream_of f == id) ≡ b → parts id heads (past ++ f ∷ []) ≡ parts id heads past ++ (if b then Stopped (code_of f) ∷ [] else [])
+  adds b e =
+      collect_push (part_of id heads) past f
+      ∙ ap (λ (ps : List Part). parts id heads past ++ ps) (part_is ∙ ap (λ (a : Bool). if a then Stopped (code_of f) ∷ [] else []) e)
 
-or_first : (a b : Bool) → a ≡ true → (a || b) ≡ true
-or_first true b e = refl
-or_first false b e = absurd cc
+  pub parts_same : (is_rst_stream f && stream_of f == id) ≡ false → parts id heads (past ++ f ∷ []) ≡ parts id heads past
+  parts_same e = adds false e ∙ append-nil (parts id heads past)
 
-or_second : (a b : Bool) → b ≡ true → (a || b) ≡ true
-or_second true b e = refl
-or_second false b e = e
+  pub parts_stop : (is_rst_stream f && stream_of f == id) ≡ true → parts id heads (past ++ f ∷ []) ≡ parts id heads past ++ Stopped (code_of f) ∷ []
+  parts_stop e = adds true e
 
-pub control_adds : (id : ℕ) (heads : List (List Field)) (past : List Frame) (f : Frame) → open_block past ≡ None → is_control f ≡ true → parts id heads (past ++ f ∷ []) ≡ parts id heads past
-control_adds id heads past f closed is =
-    collect_push (part_of id heads) past f
-    ∙ ap (λ (ps : List Part). parts id heads past ++ ps) (control_part id heads past f is ∙ ap (block_part id heads past) (none_done past f closed (or_first (is_control f) (is_rst_stream f) is)))
-    ∙ append-nil (parts id heads past)
-
-pub reset_adds : (id : ℕ) (heads : List (List Field)) (past : List Frame) (f : Frame) → open_block past ≡ None → is_rst_stream f ≡ true → parts id heads (past ++ f ∷ []) ≡ parts id heads past ++ stopped_on id f
-reset_adds id heads past f closed is =
-    collect_push (part_of id heads) past f
-    ∙ ap (λ (ps : List Part). parts id heads past ++ ps) (reset_part id heads past f is
-    ∙ ap (λ (o : Option Block). if stream_of f == id then Stopped (code_of f) ∷ [] else block_part id heads past o) (none_done past f closed (or_second (is_control f) (is_rst_stream f) is)))
+  pub reset_adds : is_rst_stream f ≡ true → parts id heads (past ++ f ∷ []) ≡ parts id heads past ++ stopped_on id f
+  reset_adds rst = adds (stream_of f == id) (ap (λ (b : Bool). b && stream_of f == id) rst)
 
 -- ---- behind any steps
 
@@ -133,7 +140,7 @@ module _ (t : CallTrace) (f : Frame) (closed : open_block (sent t.connection_tra
   spent_still id = ap (spent_on id) (sent_push t.connection_trace.frames f) ∙ spent_same (sent t.connection_trace.frames) f closed is id
 
   pub opened_before : (id : ℕ) → is_open next.connection_trace.role next.connection_trace.frames id ≡ true → is_open t.connection_trace.role t.connection_trace.frames id ≡ true
-  opened_before id o = open_back t.connection_trace.role t.connection_trace.frames (f ∷ []) begun_still id o
+  opened_before id o = open_back t.connection_trace.role t.connection_trace.frames (f ∷ []) id (begun_still id) o
 
   pub untouched_if : (id : ℕ) → parts_on next id ≡ parts_on t id → IsUntouched t next id
   untouched_if id same = record {
@@ -152,7 +159,7 @@ module _ (t : CallTrace) (f : Frame) (closed : open_block (sent t.connection_tra
   pub ready_still : IsReady t.connection_trace.frames t.connection_trace.written → IsReady next.connection_trace.frames next.connection_trace.written
   ready_still (many, none) = (
     omega (arith, many, ap (λ (fs : List Frame). length (blocks fs)) (sent_push t.connection_trace.frames f), ap length (blocks_same (sent t.connection_trace.frames) f closed is), ap length (append-nil t.connection_trace.written)),
-    ap open_block (sent_push t.connection_trace.frames f) ∙ none_open (sent t.connection_trace.frames) f closed is,
+    ap open_block (sent_push t.connection_trace.frames f) ∙ still_closed (sent t.connection_trace.frames) f closed is,
   )
 
 parts_behind : (t : CallTrace) (f : Frame) (id : ℕ) → parts_on (pushed f t) id ≡ parts id t.connection_trace.written (sent t.connection_trace.frames ++ f ∷ [])
@@ -161,13 +168,15 @@ parts_behind t f id = ap (λ (w : List (List Field)). parts id w (sent (t.connec
 -- no stream is touched by a control frame
 pub control_untouched : (t : CallTrace) (f : Frame) → open_block (sent t.connection_trace.frames) ≡ None → is_control f ≡ true → (id : ℕ) → IsUntouched t (pushed f t) id
 control_untouched t f closed is id =
-    untouched_if t f closed (or_first (is_control f) (is_rst_stream f) is) id (parts_behind t f id ∙ control_adds id t.connection_trace.written (sent t.connection_trace.frames) f closed is)
+    untouched_if t f closed (control_is_plain f is) id
+    (parts_behind t f id
+    ∙ parts_same (sent t.connection_trace.frames) f closed (control_is_plain f is) id t.connection_trace.written (ap (λ (b : Bool). b && stream_of f == id) (control_no_reset f is)))
 
 pub reset_parts : (t : CallTrace) (f : Frame) → open_block (sent t.connection_trace.frames) ≡ None → is_rst_stream f ≡ true → (id : ℕ) → parts_on (pushed f t) id ≡ parts_on t id ++ stopped_on id f
-reset_parts t f closed is id = parts_behind t f id ∙ reset_adds id t.connection_trace.written (sent t.connection_trace.frames) f closed is
+reset_parts t f closed is id = parts_behind t f id ∙ reset_adds (sent t.connection_trace.frames) f closed (reset_is_plain f is) id t.connection_trace.written is
 
 -- and by a reset no stream but its own
 pub reset_untouched : (t : CallTrace) (f : Frame) → open_block (sent t.connection_trace.frames) ≡ None → is_rst_stream f ≡ true → (id : ℕ) → (stream_of f == id) ≡ false → IsUntouched t (pushed f t) id
 reset_untouched t f closed is id other =
-    untouched_if t f closed (or_second (is_control f) (is_rst_stream f) is) id
+    untouched_if t f closed (reset_is_plain f is) id
     (reset_parts t f closed is id ∙ ap (λ (b : Bool). parts_on t id ++ (if b then Stopped (code_of f) ∷ [] else [])) other ∙ append-nil (parts_on t id))

@@ -56,7 +56,7 @@ module _ (t : CallTrace) (id : ℕ) (ps : List Part) (n : ℕ) (ends : Bool) (fs
   ended_here = m.ended_is id ∙ ap (λ (b : Bool). is_ended_by (sent t.connection_trace.frames) id || (ends && b)) (same_self id) ∙ ap (λ (b : Bool). is_ended_by (sent t.connection_trace.frames) id || b) (and_all ends)
 
   pub was_open : (k : ℕ) → is_open next.connection_trace.role next.connection_trace.frames k ≡ true → is_open t.connection_trace.role t.connection_trace.frames k ≡ true
-  was_open k o = open_back t.connection_trace.role t.connection_trace.frames fs m.begun_is k o
+  was_open k o = open_back t.connection_trace.role t.connection_trace.frames fs k (m.begun_is k) o
 
   pub untouched : (k : ℕ) → (id == k) ≡ false → IsUntouched t next k
   untouched k other = record {

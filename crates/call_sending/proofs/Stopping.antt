@@ -22,10 +22,10 @@ use Rattle.grpc_heads.specs.Written.{response_fields}
 use Rattle.grpc_stream.specs.CallTrace.{CallTrace, asked_on}
 use Rattle.kept_calls.specs.CallState.{CallState}
 use Rattle.call_sending.specs.Laws.{OthersSpellOn}
-use Rattle.call_sending.specs.Moves.{is_control, pushed}
+use Rattle.call_sending.specs.Moves.{pushed}
 use Rattle.call_sending.specs.Spelling.{IsHeaded, Sends, Speaks, Spells, parts_on}
 use Rattle.call_sending.proofs.Kept.{prepared_same, sends_kept}
-use Rattle.call_sending.proofs.Sent.{begun_still, control_untouched, ended_still_same, reset_parts, reset_untouched, spent_still}
+use Rattle.call_sending.proofs.Sent.{begun_still, control_untouched, ended_still_same, is_plain, reset_is_plain, reset_parts, reset_untouched, spent_still}
 
 abbrev pub is_stopped : Part → Bool
 is_stopped (Stopped why) = true
@@ -118,19 +118,19 @@ request_stop head (Fields fields false ∷ ps) bytes ended why some (same, body)
 request_stop head (Piece piece last ∷ ps) bytes ended why some h e = absurd h
 request_stop head (Stopped other ∷ ps) bytes ended why some h e = absurd h
 
-end_is : (read : List Field → CallEnd) (close : StreamEnd) → end_by response_fields read close ≡ option_map read (says close)
+pub end_is : (read : List Field → CallEnd) (close : StreamEnd) → end_by response_fields read close ≡ option_map read (says close)
 end_is read Unclosed = refl
 end_is read (Trailers fields) = refl
 end_is read WasReset = refl
 
-same_begun : (ps : List Part) (why : ErrorCode) → has_begun (ps ++ Stopped why ∷ []) ≡ has_begun ps
+pub same_begun : (ps : List Part) (why : ErrorCode) → has_begun (ps ++ Stopped why ∷ []) ≡ has_begun ps
 same_begun [] why = refl
 same_begun (Fields fields false ∷ ps) why = refl
 same_begun (Fields fields true ∷ ps) why = refl
 same_begun (Piece bytes last ∷ ps) why = refl
 same_begun (Stopped other ∷ ps) why = refl
 
-headed_more : (ps : List Part) (p : Part) → IsHeaded ps → IsHeaded (ps ++ p ∷ [])
+pub headed_more : (ps : List Part) (p : Part) → IsHeaded ps → IsHeaded (ps ++ p ∷ [])
 headed_more [] p h = absurd h
 headed_more (q ∷ ps) p h = tt
 
@@ -141,12 +141,8 @@ module _ (t : CallTrace) (f : Frame) (id : ℕ) (closed : open_block (sent t.con
   abbrev next : CallTrace
   next = pushed f t
 
-  plain : (is_control f || is_rst_stream f) ≡ true
-  plain = by (is_control f) (is_rst_stream f) is
-    where
-      by : (a b : Bool) → b ≡ true → (a || b) ≡ true
-      by true b e = refl
-      by false b e = e
+  plain : is_plain f ≡ true
+  plain = reset_is_plain f is
 
   parts_now : parts_on next id ≡ parts_on t id ++ Stopped (code_of f) ∷ []
   parts_now = reset_parts t f closed is id ∙ ap (λ (b : Bool). parts_on t id ++ (if b then Stopped (code_of f) ∷ [] else [])) (ap (λ (s : ℕ). s == id) on ∙ same_self id)

@@ -74,7 +74,7 @@ end_any e (Message m ∷ items) h = end_any e items h
 end_any e (Finish x ∷ []) h = refl
 end_any e (Finish x ∷ item ∷ items) h = refl
 
-first_more : (items : List (Item CallEnd)) (what : Item CallEnd) → IsMessageFirst items → IsMessageFirst (items ++ what ∷ [])
+pub first_more : (items : List (Item CallEnd)) (what : Item CallEnd) → IsMessageFirst items → IsMessageFirst (items ++ what ∷ [])
 first_more [] what h = absurd h
 first_more (Message m ∷ items) what h = tt
 first_more (Finish e ∷ items) what h = absurd h

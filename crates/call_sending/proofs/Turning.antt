@@ -1,9 +1,8 @@
 -- What a turn and a round of turns send and leave.
-use Rattle.std.proofs.Common.{◌≡◌, ℕ, ◌+◌, ◌<◌, ◌≤◌, Bool, true, false, ◌&&◌, ◌||◌, List, [], ◌∷◌, ◌++◌, length, drop, map, sum_by, None, Result, Ok, Err, refl, sym, ap, subst, ◌∙◌, append_assoc, arith}
+use Rattle.std.proofs.Common.{◌≡◌, ℕ, ◌<◌, ◌≤◌, Bool, true, false, ◌&&◌, ◌||◌, List, [], ◌∷◌, ◌++◌, length, drop, map, None, Result, Ok, Err, refl, sym, ap, subst, ◌∙◌, append_assoc, arith}
 use Rattle.std.proofs.lemmas.Bool.Decides.{nat_tests}
 use Rattle.std.specs.Prelude.{◌==◌, not, nat_lt, if◌then◌else◌}
 use Rattle.std.proofs.lemmas.List.{append-nil, map-append, length-drop}
-use Rattle.std.proofs.lemmas.List.Sums.{sum_by-append}
 use Rattle.hpack_tables.specs.declared.field.Field.{Field}
 use Rattle.h2_frames.specs.declared.frame.Frame.{Frame}
 use Rattle.h2_exchange.specs.Exchange.{Step, Sent}
@@ -15,7 +14,7 @@ use Rattle.kept_calls.specs.CallState.{CallState}
 use Rattle.kept_calls.specs.declared.call.Ending.{Ending}
 use Rattle.kept_calls.specs.declared.call.Ending.TheVariants as end
 use Rattle.call_sending.specs.Pumping as pump
-use Rattle.call_sending.specs.Pumping.{Closes, Heads, IsFit, Pieces, PumpsBytes, PumpsCall, PumpsCalls, PumpsRound, SendsBlock, SendsPiece, WentOn, closed_if, has_no_end, is_open_in, left_in, left_of, placed_in}
+use Rattle.call_sending.specs.Pumping.{Closes, Heads, Lessens, Pieces, PumpsBytes, PumpsCall, PumpsCalls, PumpsRound, SendsBlock, SendsPiece, WentOn, is_open_in, placed_in}
 
 -- ---- nothing but frames is sent
 
@@ -139,33 +138,7 @@ pub behind_head : {C E : Type 0} (stands : C → ConnectionTrace → Type 0) (co
 behind_head stands conn (Ok g) c at old mid new opened some heads (d, h, turn) = (d, h, pump.bytes mid new at d g opened some heads turn)
 behind_head stands conn (Err e) c at old mid new opened some heads h = less_memory stands conn c at (heads_went old.has_head c old mid at heads) h
 
--- ---- last header blocks stay as they are
-
-pub fit_as : (old new : CallState) (fields : List Field) → new.fields ≡ old.fields → IsFit old → IsFit new
-fit_as old new fields same fit = subst (λ (l : List Field). IsFit (record old { fields = l })) (sym same) fit
-
-pub heads_fit : (b : Bool) (c : ConnectionTrace) (old new : CallState) (d : ConnectionTrace) → Heads b c old new d → IsFit old → IsFit new
-heads_fit true c old new d h fit = subst IsFit (sym h.0) fit
-heads_fit false c old new d h fit = subst IsFit (sym h.0) fit
-
-pub pieces_fit : (c : ConnectionTrace) (old : CallState) (g : Bool) (new : CallState) (d : ConnectionTrace) → Pieces c old g new d → IsFit old → IsFit new
-pieces_fit c old g new d h fit = subst IsFit (sym h.new_is) fit
-
-closes_fit : (e : Ending) (c : ConnectionTrace) (old new : CallState) (d : ConnectionTrace) → Closes e c old new d → IsFit old → IsFit new
-closes_fit end.Open c old new d h fit = subst IsFit (sym h.0) fit
-closes_fit end.Sent c old new d h fit = subst IsFit (sym h.0) fit
-closes_fit end.Block c old new d h fit = subst IsFit (sym h.0) fit
-closes_fit end.Trailers c old new d h fit = subst IsFit (sym h.0) fit
-closes_fit end.HalfClose c old new d h fit = subst IsFit (sym h.0) fit
-
 -- ---- a turn leaves no more than there was
-
-end_size : Ending → ℕ
-end_size e = if has_no_end e then 0 else 1
-
-closed_size : (t : Bool) (e : Ending) → (if has_no_end (closed_if t e) then 0 else 1) ≤ (if has_no_end e then 0 else 1)
-closed_size true e = omega arith
-closed_size false e = omega arith
 
 pub some_of : (n : ℕ) → (n == 0) ≡ false → 0 < n
 some_of n e = grind (arith, nat_tests)
@@ -181,93 +154,27 @@ goes n m e =
     let both = and_parts (nat_lt 0 n) (not (m == 0)) e in
     (above n both.0, some_of m (not_true (m == 0) both.1))
 
-placed_size : (n : ℕ) (c : CallState) → left_of (placed_in n c) ≤ left_of c
-placed_size n c =
-    let t = length (drop n c.unsent) == 0 && pump.is_half_close c.ending in
-    omega (arith, length-drop n c.unsent, closed_size t c.ending)
-
-pub record Lessens (g : Bool) (old new : CallState) : Type 0 where
-  pub least : left_of new ≤ left_of old
-  pub less : g ≡ true → left_of new < left_of old
-  pub fits : IsFit old → IsFit new
-
-none_less : (a b : ℕ) → false ≡ true → a < b
-none_less a b e = absurd cc
-
-heads_lessen : (b : Bool) (c : ConnectionTrace) (old new : CallState) (d : ConnectionTrace) → Heads b c old new d → left_of new ≡ left_of old
-heads_lessen true c old new d h = ap left_of h.0
-heads_lessen false c old new d h = ap left_of h.0
-
-pieces_lessen : (c : ConnectionTrace) (old : CallState) (g : Bool) (new : CallState) (d : ConnectionTrace) → Pieces c old g new d → Lessens g old new
-pieces_lessen c old g new d h = record {
-  least = omega (arith, ap left_of h.new_is, placed_size h.n old);
+pub placed_lessens : (n : ℕ) (bytes : List ℕ) → Lessens (nat_lt 0 n && not (length (drop n bytes) == 0)) (length bytes) (length (drop n bytes))
+placed_lessens n bytes = record {
+  least = omega (arith, length-drop n bytes);
   less = λ e.
-      let both = goes h.n (length (drop h.n old.unsent)) (sym h.goes_on_is ∙ e) in
-      let t = length (drop h.n old.unsent) == 0 && pump.is_half_close old.ending in
-      omega (arith, ap left_of h.new_is, both.0, both.1, length-drop h.n old.unsent, closed_size t old.ending);
-  fits = pieces_fit c old g new d h;
+      let both = goes n (length (drop n bytes)) e in
+      omega (arith, both.0, both.1, length-drop n bytes);
 }
 
-closes_least : (e : Ending) (c : ConnectionTrace) (old new : CallState) (d : ConnectionTrace) → Closes e c old new d → left_of new ≤ left_of old
-closes_least end.Open c old new d h = omega (arith, ap left_of h.0)
-closes_least end.Sent c old new d h = omega (arith, ap left_of h.0)
-closes_least end.Block c old new d h = omega (arith, ap left_of h.0)
-closes_least end.Trailers c old new d h = omega (arith, ap left_of h.0)
-closes_least end.HalfClose c old new d h = omega (arith, ap left_of h.0)
+pub piece_lessens : (n : ℕ) (old new : CallState) (g : Bool) → new ≡ placed_in n old → g ≡ (nat_lt 0 n && not (length (drop n old.unsent) == 0)) → Lessens g (length old.unsent) (length new.unsent)
+piece_lessens n old new g is e =
+    subst (λ (b : Bool). Lessens b (length old.unsent) (length new.unsent)) (sym e)
+    (subst (λ (c : CallState). Lessens (nat_lt 0 n && not (length (drop n old.unsent) == 0)) (length old.unsent) (length c.unsent)) (sym is) (placed_lessens n old.unsent))
 
-bytes_lessen : (c : ConnectionTrace) (old : CallState) (g : Bool) (new : CallState) (d : ConnectionTrace) → PumpsBytes c old g new d → Lessens g old new
-bytes_lessen c old g new d (pump.piece _ _ _ h left) = pieces_lessen c old g new d h
-bytes_lessen c old _ new d (pump.whole next _ at _ h none closes) =
-    let first = pieces_lessen c old false next at h in
-    record {
-      least = omega (arith, first.least, closes_least next.ending at next new d closes);
-      less = none_less _ _;
-      fits = λ fit. closes_fit next.ending at next new d closes (first.fits fit);
-    }
+pub none_less : (n : ℕ) → Lessens false n n
+none_less n = record { least = omega arith; less = λ e. absurd cc }
 
-pub call_lessens : (c : ConnectionTrace) (old : CallState) (g : Bool) (new : CallState) (d : ConnectionTrace) → PumpsCall c old g new d → Lessens g old new
-call_lessens c old _ _ _ (pump.idle none ended) = record { least = omega arith; less = none_less _ _; fits = λ fit. fit }
-call_lessens c old _ _ _ (pump.shut closed) = record { least = omega arith; less = none_less _ _; fits = λ fit. fit }
-call_lessens c old g new d (pump.bytes mid _ at _ _ opened some heads behind) =
-    let same = heads_lessen old.has_head c old mid at heads in
-    let later = bytes_lessen at mid g new d behind in
-    record {
-      least = omega (arith, same, later.least);
-      less = λ e. omega (arith, same, later.less e);
-      fits = λ fit. later.fits (heads_fit old.has_head c old mid at heads fit);
-    }
-call_lessens c old _ new d (pump.close _ _ opened none closes) = record {
-  least = closes_least old.ending c old new d closes;
-  less = none_less _ _;
-  fits = closes_fit old.ending c old new d closes;
-}
+-- nothing follows, and what is left stays
+pub stays_less : (g : Bool) (a b c : ℕ) → Lessens g a b → c ≡ b → Lessens false a c
+stays_less g a b c h e = record { least = omega (arith, h.least, e); less = λ k. absurd cc }
 
 -- ---- a round
-
-pub record Lessen (g : Bool) (olds news : List CallState) : Type 0 where
-  pub least : left_in news ≤ left_in olds
-  pub less : g ≡ true → left_in news < left_in olds
-
-left_more : (c : CallState) (cs : List CallState) → left_in (c ∷ cs) ≡ left_of c + left_in cs
-left_more c cs =
-    let alone : sum_by left_of (c ∷ []) ≡ 0 + left_of c = refl in
-    omega (arith, alone, sum_by-append left_of (c ∷ []) cs)
-
-either : (a b c d : ℕ) (first later : Bool) → a ≤ c → (first ≡ true → a < c) → b ≤ d → (later ≡ true → b < d) → (if first then true else later) ≡ true → a + b < c + d
-either a b c d true later p q r s e = omega (arith, q refl, r)
-either a b c d false later p q r s e = omega (arith, p, s e)
-
-pub round_lessens : (c : ConnectionTrace) (olds : List CallState) (g : Bool) (news : List CallState) (d : ConnectionTrace) → PumpsRound c olds g news d → Lessen g olds news
-round_lessens c _ _ _ _ (pump.none _) = record { least = omega arith; less = none_less _ _ }
-round_lessens c _ _ _ d (pump.more _ at _ old new olds news first later h rest) =
-    let one = call_lessens c old first new at h in
-    let others = round_lessens at olds later news d rest in
-    record {
-      least = omega (arith, one.least, others.least, left_more old olds, left_more new news);
-      less = λ e.
-          let sum = either (left_of new) (left_in news) (left_of old) (left_in olds) first later one.least one.less others.least others.less e in
-          omega (arith, sum, left_more old olds, left_more new news);
-    }
 
 shared : (a b c : Bool) → (if a then true else (b || c)) ≡ ((if a then true else b) || c)
 shared true b c = refl

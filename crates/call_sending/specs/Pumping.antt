@@ -1,9 +1,7 @@
 -- What is sent of one call, and of all.
-use Rattle.std.specs.Prelude.{◌≡◌, ◌⊎◌, ℕ, ◌+◌, ◌≤◌, ◌<◌, ◌==◌, ◌&&◌, Bool, true, false, not, nat_lt, map, List, [], ◌∷◌, length, drop, sum_by, Result, Ok, Err, if◌then◌else◌}
-use Rattle.std.specs.List.{All}
+use Rattle.std.specs.Prelude.{◌≡◌, ◌⊎◌, ℕ, ◌≤◌, ◌<◌, ◌==◌, ◌&&◌, Bool, true, false, not, nat_lt, map, List, [], ◌∷◌, length, drop, sum_by, Result, Ok, Err, if◌then◌else◌}
 use Rattle.grpc_heads.specs.Written.{response_fields}
 use Rattle.hpack_tables.specs.declared.field.Field.{Field}
-use Rattle.hpack_tables.specs.EntrySizes.{size_of}
 use Rattle.h2_frames.specs.declared.frame.Frame.{Frame}
 use Rattle.h2_exchange.specs.Streams.{is_open}
 use Rattle.h2_exchange.specs.Windows.{placed_of}
@@ -36,13 +34,6 @@ has_no_end other = false
 abbrev pub is_half_close : Ending → Bool
 is_half_close end.HalfClose = true
 is_half_close other = false
-
--- a last header block that may be sent
-abbrev pub IsFit : CallState → Type 0
-IsFit c = sum_by size_of c.fields ≤ 65536
-
-abbrev pub AreFit : List CallState → Type 0
-AreFit cs = All IsFit cs
 
 abbrev pub is_open_in : ConnectionTrace → ℕ → Bool
 is_open_in c id = is_open c.role c.frames id
@@ -90,12 +81,14 @@ Closes end.Block c old new d = (new ≡ record old { ending = end.Sent }) × Sen
 Closes end.Trailers c old new d = (new ≡ record old { ending = end.Sent }) × SendsBlock c old.stream true old.fields d
 Closes end.HalfClose c old new d = (new ≡ record old { ending = end.Sent }) × ((n : ℕ) × SendsPiece c old.stream [] true n d)
 
--- what a call has left, and its end with it where that is not sent
-abbrev pub left_of : CallState → ℕ
-left_of c = length c.unsent + (if has_no_end c.ending then 0 else 1)
-
+-- how many bytes no DATA holds
 abbrev pub left_in : List CallState → ℕ
-left_in cs = sum_by left_of cs
+left_in cs = sum_by (λ (c : CallState). length c.unsent) cs
+
+-- No more are left than before, and fewer where more may follow.
+pub record Lessens (goes_on : Bool) (before after : ℕ) : Type 0 where
+  pub least : after ≤ before
+  pub less : goes_on ≡ true → after < before
 
 -- what is kept of what the peers of these calls sent
 abbrev pub cutters_of : List Call → List CutterState

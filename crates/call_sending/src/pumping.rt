@@ -1,9 +1,9 @@
 //! What the windows allow is sent.
-ghost use Rattle.std.specs.Prelude.{◌≡◌, ◌≤◌, None, ◌==◌, ◌&&◌, not, nat_lt, drop, ℕ, [], true, false, length};
+ghost use Rattle.std.specs.Prelude.{◌≡◌, ◌≤◌, None, ◌==◌, ◌&&◌, not, nat_lt, drop, ℕ, [], true, false, length, IfOk};
 ghost use Rattle.http_connection.specs.ConnectionTrace.{ConnectionTrace};
 ghost use Rattle.kept_calls.specs.CallState.{state_of, states};
 ghost use Rattle.call_sending.specs.Pumping as spec;
-ghost use Rattle.call_sending.specs.Pumping.{AreFit, Closes, Heads, IsFit, Pieces, PumpsBytes, PumpsCall, PumpsCalls, PumpsRound, SendsBlock, SendsPiece, Turns, cutters_of, placed_in};
+ghost use Rattle.call_sending.specs.Pumping.{Closes, Heads, Lessens, Pieces, PumpsBytes, PumpsCall, PumpsCalls, PumpsRound, SendsBlock, SendsPiece, Turns, cutters_of, left_in, placed_in};
 
 use grpc_heads::response_head;
 use http_connection::HttpConnection;
@@ -45,6 +45,7 @@ fn send_head<C: HttpConnection>(
         Turns C.stands conn.new result c (λ done d. Heads call.old.has_head c (state_of call.old) (state_of call.new) d) }
     ensures ahead { C.ahead conn.new ≡ C.ahead conn.old }
     ensures cutter { call.new.cutter ≡ call.old.cutter }
+    ensures left { call.new.unsent.items ≡ call.old.unsent.items }
 {
     if call.has_head {
         return Ok(());
@@ -64,17 +65,28 @@ fn send_head<C: HttpConnection>(
 
 // Sends one DATA of what is left, and tells whether more may follow.
 fn send_bytes<C: HttpConnection>(conn: &mut C, call: &mut Call) -> Result<bool, AllocError>
-    requires { (c : ConnectionTrace) × C.stands conn.old c }
     ensures turns { (c : ConnectionTrace) → C.stands conn.old c →
         Turns C.stands conn.new result c (λ goes_on d. Pieces c (state_of call.old) goes_on (state_of call.new) d) }
     ensures ahead { C.ahead conn.new ≡ C.ahead conn.old }
     ensures cutter { call.new.cutter ≡ call.old.cutter }
+    ensures left { IfOk result (λ goes_on. Lessens goes_on (length call.old.unsent.items) (length call.new.unsent.items)) }
 {
     let is_last = is_half_close(call.ending);
     match conn.send_piece(call.stream, call.unsent.as_slice(), is_last) {
-        Ok(n) => Ok(take_placed(call, n, is_last)),
+        Ok(n) => {
+            let placed = clipped(n, call.unsent.len());
+            Ok(take_placed(call, placed, is_last))
+        }
         Err(_) => Err(AllocError),
     }
+}
+
+// No more than there are.
+fn clipped(n: usize, all: usize) -> usize
+    ensures most { result ≤ all }
+    ensures same { n ≤ all → result ≡ n }
+{
+    if n < all { n } else { all }
 }
 
 // Drops what was placed, and tells whether more may follow.
@@ -95,12 +107,12 @@ fn take_placed(call: &mut Call, n: usize, is_last: bool) -> bool
 
 // Sends a response's head and trailers in one block.
 fn send_block<C: HttpConnection>(conn: &mut C, call: &mut Call) -> Result<(), AllocError>
-    requires { IsFit (state_of call.old) }
     ensures turns { (c : ConnectionTrace) → C.stands conn.old c →
         Turns C.stands conn.new result c (λ done d. (state_of call.new ≡ record (state_of call.old) { ending = Ending.Sent })
         × SendsBlock c call.old.stream true call.old.fields d) }
     ensures ahead { C.ahead conn.new ≡ C.ahead conn.old }
     ensures cutter { call.new.cutter ≡ call.old.cutter }
+    ensures left { call.new.unsent.items ≡ call.old.unsent.items }
 {
     match conn.send_head(call.stream, &call.fields, true) {
         Ok(()) => {
@@ -112,12 +124,12 @@ fn send_block<C: HttpConnection>(conn: &mut C, call: &mut Call) -> Result<(), Al
 }
 
 fn send_trailers<C: HttpConnection>(conn: &mut C, call: &mut Call) -> Result<(), AllocError>
-    requires { IsFit (state_of call.old) }
     ensures turns { (c : ConnectionTrace) → C.stands conn.old c →
         Turns C.stands conn.new result c (λ done d. (state_of call.new ≡ record (state_of call.old) { ending = Ending.Sent })
         × SendsBlock c call.old.stream true call.old.fields d) }
     ensures ahead { C.ahead conn.new ≡ C.ahead conn.old }
     ensures cutter { call.new.cutter ≡ call.old.cutter }
+    ensures left { call.new.unsent.items ≡ call.old.unsent.items }
 {
     match conn.send_trailers(call.stream, &call.fields) {
         Ok(()) => {
@@ -135,6 +147,7 @@ fn half_close<C: HttpConnection>(conn: &mut C, call: &mut Call) -> Result<(), Al
         × ((n : ℕ) × SendsPiece c call.old.stream [] true n d)) }
     ensures ahead { C.ahead conn.new ≡ C.ahead conn.old }
     ensures cutter { call.new.cutter ≡ call.old.cutter }
+    ensures left { call.new.unsent.items ≡ call.old.unsent.items }
 {
     match conn.send_piece(call.stream, [].as_slice(), true) {
         Ok(_) => {
@@ -147,11 +160,11 @@ fn half_close<C: HttpConnection>(conn: &mut C, call: &mut Call) -> Result<(), Al
 
 // Sends the end behind the last byte.
 fn send_end<C: HttpConnection>(conn: &mut C, call: &mut Call) -> Result<(), AllocError>
-    requires { IsFit (state_of call.old) }
     ensures turns { (c : ConnectionTrace) → C.stands conn.old c →
         Turns C.stands conn.new result c (λ done d. Closes call.old.ending c (state_of call.old) (state_of call.new) d) }
     ensures ahead { C.ahead conn.new ≡ C.ahead conn.old }
     ensures cutter { call.new.cutter ≡ call.old.cutter }
+    ensures left { call.new.unsent.items ≡ call.old.unsent.items }
 {
     match call.ending {
         Ending::Open => Ok(()),
@@ -188,12 +201,11 @@ fn pump_call<C: HttpConnection>(
     conn: &mut C,
     call: &mut Call,
 ) -> Result<bool, AllocError>
-    requires fit { IsFit (state_of call.old) }
-    requires alive { (c : ConnectionTrace) × C.stands conn.old c × (c.refusal ≡ None) }
     ensures turns { (c : ConnectionTrace) → C.stands conn.old c → c.refusal ≡ None →
         Turns C.stands conn.new result c (λ goes_on d. PumpsCall c (state_of call.old) goes_on (state_of call.new) d) }
     ensures ahead { C.ahead conn.new ≡ C.ahead conn.old }
     ensures cutter { call.new.cutter ≡ call.old.cutter }
+    ensures left { IfOk result (λ goes_on. Lessens goes_on (length call.old.unsent.items) (length call.new.unsent.items)) }
 {
     if !may_send(conn, call) {
         return Ok(false);
@@ -212,12 +224,11 @@ fn pump_call<C: HttpConnection>(
 
 // Behind the head: one DATA, and behind the last byte the end.
 fn pump_bytes<C: HttpConnection>(conn: &mut C, call: &mut Call) -> Result<bool, AllocError>
-    requires fit { IsFit (state_of call.old) }
-    requires stands { (c : ConnectionTrace) × C.stands conn.old c }
     ensures turns { (c : ConnectionTrace) → C.stands conn.old c →
         Turns C.stands conn.new result c (λ goes_on d. PumpsBytes c (state_of call.old) goes_on (state_of call.new) d) }
     ensures ahead { C.ahead conn.new ≡ C.ahead conn.old }
     ensures cutter { call.new.cutter ≡ call.old.cutter }
+    ensures left { IfOk result (λ goes_on. Lessens goes_on (length call.old.unsent.items) (length call.new.unsent.items)) }
 {
     match send_bytes(conn, call) {
         Ok(goes_on) => {
@@ -242,12 +253,11 @@ fn pump_round<C: HttpConnection>(
     conn: &mut C,
     calls: &mut Vec<Call>,
 ) -> Result<bool, AllocError>
-    requires fit { AreFit (states calls.old.items) }
-    requires alive { (c : ConnectionTrace) × C.stands conn.old c × (c.refusal ≡ None) }
     ensures turns { (c : ConnectionTrace) → C.stands conn.old c → c.refusal ≡ None →
         Turns C.stands conn.new result c (λ goes_on d. PumpsRound c (states calls.old.items) goes_on (states calls.new.items) d) }
     ensures ahead { C.ahead conn.new ≡ C.ahead conn.old }
     ensures cutters { cutters_of calls.new.items ≡ cutters_of calls.old.items }
+    ensures left { IfOk result (λ goes_on. Lessens goes_on (left_in (states calls.old.items)) (left_in (states calls.new.items))) }
 {
     let mut goes_on = false;
     'calls: for at in 0..calls.len() {
@@ -265,8 +275,6 @@ pub fn pump_calls<C: HttpConnection>(
     conn: &mut C,
     calls: &mut Vec<Call>,
 ) -> Result<(), AllocError>
-    requires fit { AreFit (states calls.old.items) }
-    requires alive { (c : ConnectionTrace) × C.stands conn.old c × (c.refusal ≡ None) }
     ensures turns { (c : ConnectionTrace) → C.stands conn.old c → c.refusal ≡ None →
         Turns C.stands conn.new result c (λ done d. PumpsCalls c (states calls.old.items) (states calls.new.items) d) }
     ensures ahead { C.ahead conn.new ≡ C.ahead conn.old }

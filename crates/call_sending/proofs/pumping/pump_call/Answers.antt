@@ -1,7 +1,9 @@
-use Rattle.std.proofs.Common.{refl, sym}
+use Rattle.std.proofs.Common.{List, ℕ, refl, sym, ap, subst, length}
+use Rattle.std.specs.Prelude.{IfOk}
 use Rattle.kept_calls.specs.CallState.{state_of}
 use Rattle.call_sending.specs.Pumping as pump
-use Rattle.call_sending.proofs.Turning.{behind_head, some_of, zero_of}
+use Rattle.call_sending.specs.Pumping.{Lessens}
+use Rattle.call_sending.proofs.Turning.{behind_head, none_less, some_of, stays_less, zero_of}
 use Rattle.call_sending.proofs.pumping.pump_call.Goals as goal
 
 pub returns-then-not-may_send-clause-turns : goal.returns-then-not-may_send-clause-turns
@@ -11,12 +13,6 @@ pub returns-in-Ok-clause-turns : goal.returns-in-Ok-clause-turns
 returns-in-Ok-clause-turns g c = λ k h a.
     let r = c.in-Ok.ensures.turns k h in
     (r.0, r.1, pump.close _ r.0 (c.if-not-may_send.ensures.open refl k h a) (zero_of _ (sym c.if-has_sent_all.ensures)) r.2)
-
-pub pump_bytes-requires-clause-stands : goal.pump_bytes-requires-clause-stands
-pump_bytes-requires-clause-stands g c =
-    let q = c.requires.alive in
-    let r = c.in-Ok-send_head.ensures.turns q.0 q.1 in
-    (r.0, r.1)
 
 pub returns-in-Ok-send_head-clause-turns : goal.returns-in-Ok-send_head-clause-turns
 returns-in-Ok-send_head-clause-turns g c = λ k h a.
@@ -29,3 +25,15 @@ returns-in-Err-clause-turns g c = λ k h a. c.in-Err.ensures.turns k h
 
 pub returns-in-Err-send_head-clause-turns : goal.returns-in-Err-send_head-clause-turns
 returns-in-Err-send_head-clause-turns g c = λ k h a. c.in-Err-send_head.ensures.turns k h
+
+pub returns-then-not-may_send-clause-left : goal.returns-then-not-may_send-clause-left
+returns-then-not-may_send-clause-left g c = none_less (length c.args.call.now.unsent.items)
+
+pub returns-in-Ok-clause-left : goal.returns-in-Ok-clause-left
+returns-in-Ok-clause-left g c =
+    let n = length c.args.call.now.unsent.items in
+    stays_less _ n n (length c.send_end.new.call.unsent.items) (none_less n) (ap length c.send_end.ensures.left)
+
+pub returns-in-Ok-send_head-clause-left : goal.returns-in-Ok-send_head-clause-left
+returns-in-Ok-send_head-clause-left g c =
+    subst (λ (u : List ℕ). IfOk c.pump_bytes.result (λ goes_on. Lessens goes_on (length u) (length c.pump_bytes.new.call.unsent.items))) c.send_head.ensures.left c.pump_bytes.ensures.left

@@ -1,15 +1,14 @@
 use Rattle.std.proofs.Common.{◌≡◌, None}
 use Rattle.http_connection.specs.ConnectionTrace.{ConnectionTrace}
 use Rattle.kept_calls.specs.CallState.{states}
-use Rattle.call_sending.specs.Pumping.{AreFit, cutters_of, left_in}
+use Rattle.call_sending.specs.Pumping.{cutters_of, left_in}
 use Rattle.call_sending.proofs.Rounds.{Leads}
 use Rattle.call_sending.proofs.pumping.pump_calls.Given as goal
 
 -- the rounds so far lead here
 abbrev pub invariant-rounds : goal.invariant-rounds
 invariant-rounds g l =
-    AreFit (states l.calls.items)
-    × ((c : ConnectionTrace) → g.C.HttpConnection.stands l.fn.conn c → c.refusal ≡ None →
+    ((c : ConnectionTrace) → g.C.HttpConnection.stands l.fn.conn c → c.refusal ≡ None →
     (d : ConnectionTrace) × g.C.HttpConnection.stands l.conn d × (d.refusal ≡ None) × Leads c (states l.fn.calls.items) d (states l.calls.items))
     × (g.C.HttpConnection.ahead l.conn ≡ g.C.HttpConnection.ahead l.fn.conn)
     × (cutters_of l.calls.items ≡ cutters_of l.fn.calls.items)

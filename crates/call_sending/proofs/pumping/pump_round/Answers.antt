@@ -1,29 +1,14 @@
 use Rattle.std.proofs.Common.{◌≡◌, ℕ, ◌+◌, ◌<◌, ◌||◌, set, Bool, length, refl, sym, ap, subst, ◌∙◌, arith}
 use Rattle.std.proofs.lemmas.List.{length-set}
 use Rattle.kept_calls.specs.CallState.{state_of, states}
-use Rattle.call_sending.proofs.Rounds.{HaveTurned, all_turned, as_many, cutters_kept, here_fits, none_turned, one_more, seen, turned_in, went_so_far}
-use Rattle.call_sending.proofs.Turning.{call_went, less_memory, still_alive}
+use Rattle.call_sending.specs.Pumping.{Lessens, left_in}
+use Rattle.call_sending.proofs.Rounds.{HaveTurned, all_turned, as_many, cutters_kept, none_turned, one_more, seen, turn_lessens, turned_in, went_so_far}
+use Rattle.call_sending.proofs.Turning.{call_went, less_memory, none_less, still_alive}
 use Rattle.call_sending.proofs.pumping.pump_round.Goals as goal
 use Rattle.call_sending.proofs.pumping.pump_round.Goals.{then-goes_on, else-goes_on}
 
 pub calls-init : goal.calls-init
-calls-init g c = (refl, (λ k h a. (k, h, a, none_turned k (states c.args.calls.now.items))), refl, refl)
-
-pub pump_call-requires-clause-fit : goal.pump_call-requires-clause-fit
-pump_call-requires-clause-fit g c =
-    let q = c.requires.alive in
-    let m = c.calls.invariant.1 q.0 q.1 q.2 in
-    let olds = states c.args.calls.now.items in
-    let i : ℕ = c.calls.at in
-    let within : i < length c.args.calls.now.items = omega (arith, c.calls-test.true, c.len-at-end.ensures) in
-    here_fits i q.0 olds c.calls.goes_on (states c.calls.calls.items) m.0 m.3 (state_of c.index_mut.result.now) (omega (arith, within, as_many c.args.calls.now.items))
-    (seen c.calls.calls.items i c.index_mut.result.now (omega (arith, within, c.calls.invariant.0)) c.index_mut.ensures.value) c.requires.fit
-
-pub pump_call-requires-clause-alive : goal.pump_call-requires-clause-alive
-pump_call-requires-clause-alive g c =
-    let q = c.requires.alive in
-    let m = c.calls.invariant.1 q.0 q.1 q.2 in
-    (m.0, m.1, m.2)
+calls-init g c = (refl, (λ k h a. (k, h, a, none_turned k (states c.args.calls.now.items))), refl, refl, none_less (left_in (states c.args.calls.now.items)))
 
 pub returns-in-Err-clause-turns : goal.returns-in-Err-clause-turns
 returns-in-Err-clause-turns g c = λ k h a.
@@ -52,6 +37,9 @@ calls-preserved g c =
           )),
       c.pump_call.ensures.ahead ∙ c.calls.invariant.2,
       cutters_kept items i c.index_mut.result.now c.pump_call.new.call (omega (arith, within, c.calls.invariant.0)) c.index_mut.ensures.value c.pump_call.ensures.cutter ∙ c.calls.invariant.3,
+      subst (λ (b : Bool). Lessens b (left_in (states c.args.calls.now.items)) (left_in (states (set items i c.pump_call.new.call)))) joined
+          (turn_lessens items i c.index_mut.result.now c.pump_call.new.call c.calls.goes_on c.in-Ok.more (left_in (states c.args.calls.now.items)) (omega (arith, within, c.calls.invariant.0))
+          c.index_mut.ensures.value c.calls.invariant.4 c.in-Ok.ensures.left),
     )
 
 pub returns-clause-turns : goal.returns-clause-turns

@@ -1,7 +1,7 @@
 use Rattle.std.proofs.Common.{◌≡◌, None, length}
 use Rattle.http_connection.specs.ConnectionTrace.{ConnectionTrace}
 use Rattle.kept_calls.specs.CallState.{states}
-use Rattle.call_sending.specs.Pumping.{cutters_of}
+use Rattle.call_sending.specs.Pumping.{Lessens, cutters_of, left_in}
 use Rattle.call_sending.proofs.Rounds.{HaveTurned}
 use Rattle.call_sending.proofs.pumping.pump_round.Given as goal
 
@@ -13,3 +13,4 @@ invariant-calls g l =
     (d : ConnectionTrace) × g.C.HttpConnection.stands l.conn d × (d.refusal ≡ None) × HaveTurned l.at c (states l.fn.calls.items) l.goes_on (states l.calls.items) d)
     × (g.C.HttpConnection.ahead l.conn ≡ g.C.HttpConnection.ahead l.fn.conn)
     × (cutters_of l.calls.items ≡ cutters_of l.fn.calls.items)
+    × Lessens l.goes_on (left_in (states l.fn.calls.items)) (left_in (states l.calls.items))
