@@ -14,12 +14,13 @@ use Rattle.h2_exchange.proofs.Steps.{sent_push}
 use Rattle.http_connection.specs.ConnectionTrace.{ConnectionTrace, IsSound, held, wrote}
 use Rattle.http_connection.specs.Sends.{CarryCredit, IsCredit}
 use Rattle.grpc_stream.specs.CallTrace.{CallTrace, changed}
+use Rattle.call_sending.specs.Moves.{is_control}
+use Rattle.call_sending.proofs.Sent.{control_is_plain, still_closed}
 use Rattle.call_standing.specs.declared.fate.Fate.{Fate}
 use Rattle.call_standing.specs.declared.fate.Fate.TheVariants.{Going, Refused, Starved, Dead}
 use Rattle.call_standing.specs.Standing.{Holds, IsGoing, StandsFor, State, bare}
 use Rattle.call_standing.proofs.Pushed.{control_holds}
 use Rattle.call_standing.proofs.Rest.{rest_of}
-use Rattle.call_standing.proofs.Sent.{control_is_plain, is_control, still_closed}
 
 abbrev pub AreControl : List Frame → Type 0
 AreControl [] = Unit {0}

@@ -123,3 +123,9 @@ pub found : (items : List Call) (id at : ℕ) (call : Call) → position (λ (c 
 found items id at call p is =
     let r = changed items id at call (record call { stream = id }) p is refl in
     (r.was, r.on)
+
+-- what stands there is one call, whatever it is read as
+pub same_call : (items : List Call) (id at : ℕ) (a b : Call) → position (λ (c : Call). c.stream == id) items ≡ Some at → a ≡ slice_index_or items at a → b ≡ slice_index_or items at b → state_of a ≡ state_of b
+same_call items id at a b p is also =
+    let one : Some (state_of a) ≡ Some (state_of b) = sym (found items id at a p is).0 ∙ (found items id at b p also).0 in
+    cc

@@ -30,9 +30,10 @@ use Rattle.grpc_heads.specs.Written.{response_fields}
 use Rattle.call_hearing.specs.declared.pending.Pending.TheVariants.{Nothing}
 use Rattle.call_hearing.specs.Listening.{still_told, told_by}
 use Rattle.call_sending.specs.Spelling.{Speaks, Spells, parts_on}
+use Rattle.call_sending.proofs.Sent.{parts_same, spent_same, still_closed}
 use Rattle.call_standing.specs.Standing.{Holds, IsRest, IsUnkept, bare}
 use Rattle.call_standing.proofs.Rest.{rest_of}
-use Rattle.call_standing.proofs.Sent.{none_sent, parts_same, spent_same, still_closed}
+use Rattle.call_standing.proofs.Sent.{none_sent}
 
 -- ---- the first frames
 

@@ -5,7 +5,6 @@ pub mod Spelled
 pub mod Rest
 pub mod Sent
 pub mod Fresh
-pub mod Stopping
 pub mod Pushed
 pub mod Credits
 pub mod Resetting
@@ -20,3 +19,6 @@ pub mod Taken
 pub mod Told
 pub mod Hearing
 pub mod Trailing
+pub mod Heading
+pub mod Begins
+pub mod Calling

@@ -1,11 +1,10 @@
 -- A pump: what it sends, and what it leaves waiting.
 use Rattle.std.proofs.Common.{◌≡◌, ℕ, ◌+◌, ◌-◌, ◌^◌, ◌<◌, ◌==◌, Bool, true, false, List, [], ◌∷◌, ◌++◌, length, take, map, min, sum_by, Option, Some, None, inl, inr, refl, sym, ap, subst, ◌∙◌, append_assoc, arith}
 use Rattle.std.specs.Prelude.{not, is_some, option_to_list, if◌then◌else◌}
-use Rattle.std.specs.List.{All, flat_map, list_any}
+use Rattle.std.specs.List.{flat_map, list_any}
 use Rattle.std.proofs.lemmas.Bool.{false≢true}
 use Rattle.std.proofs.lemmas.List.{append_cancel_left, length-append, take_at}
 use Rattle.std.proofs.lemmas.List.Concat.{flat_map-append}
-use Rattle.std.proofs.lemmas.List.Elements.{All-nil, All-cons}
 use Rattle.std.proofs.lemmas.List.Sums.{sum_by-cons}
 use Rattle.hpack_tables.specs.declared.field.Field.{Field}
 use Rattle.h2_frames.specs.declared.frame.Frame.{Frame}
@@ -29,15 +28,14 @@ use Rattle.grpc_framing.specs.CutterState.{CutterState}
 use Rattle.call_hearing.specs.declared.pending.Pending.{Pending}
 use Rattle.call_hearing.specs.Listening.{told_later}
 use Rattle.call_sending.specs.Moves.{IsDone, IsReady}
-use Rattle.call_sending.specs.Pumping.{IsFit, PumpsCalls, WentOn}
+use Rattle.call_sending.specs.Pumping.{PumpsCalls, WentOn}
 use Rattle.call_sending.proofs.Kept.{IsUntouched, sends_kept, speaks_same}
 use Rattle.call_sending.proofs.Moved.{received_kept, sent_behind}
 use Rattle.call_sending.proofs.Turned.{at_behind, nothing}
 use Rattle.call_standing.specs.declared.fate.Fate.{Fate}
 use Rattle.call_standing.specs.declared.fate.Fate.TheVariants.{Dead, Going, Refused, Starved}
 use Rattle.call_standing.specs.Standing.{Holds, IsGoing, IsUnkept, StandsFor, StandsOn, State, bare}
-use Rattle.call_standing.proofs.Pumped.{AreDone, Pumped, calls_hold, kept}
-use Rattle.call_standing.proofs.Went.{sends_of}
+use Rattle.call_standing.proofs.Pumped.{AreDone, Pumped, calls_hold}
 use Rattle.call_standing.proofs.Rest.{rest_of}
 
 -- ---- what was fed, dropped, held and refused is beside the point
@@ -206,18 +204,6 @@ module _ {C : Type 0} (stands : C → ConnectionTrace → Type 0) (output : C �
         h.alive,
         waits,
       )
-
--- ---- before a pump
-
-fits_from : (t : CallTrace) (role : Role) (pending : Pending) (done olds : List CallState) → Holds (kept role pending (done ++ olds)) t → All IsFit olds
-fits_from t role pending done [] h = All-nil IsFit
-fits_from t role pending done (c ∷ olds) h =
-    All-cons IsFit c olds (sends_of t role pending done olds c h).fits
-    (fits_from t role pending (done ++ c ∷ []) olds (subst (λ (cs : List CallState). Holds (kept role pending cs) t) (sym (append_assoc done (c ∷ []) olds)) h))
-
--- each last header block may be sent
-pub all_fit : (s : State) (t : CallTrace) → Holds s t → All IsFit s.calls
-all_fit s t h = fits_from t s.role s.pending [] s.calls h
 
 -- ---- what is still to be told
 

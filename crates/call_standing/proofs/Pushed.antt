@@ -19,11 +19,13 @@ use Rattle.h2_exchange.proofs.Steps.{over_stays, sent_push}
 use Rattle.grpc_stream.specs.CallTrace.{CallTrace}
 use Rattle.kept_calls.specs.CallState.{CallState, call_on}
 use Rattle.call_hearing.specs.declared.pending.Pending.{Pending}
+use Rattle.call_sending.specs.Moves.{is_control}
 use Rattle.call_sending.specs.Spelling.{parts_on}
 use Rattle.call_sending.proofs.Kept.{IsUntouched, sends_kept, speaks_same}
 use Rattle.call_sending.proofs.Moved.{open_back}
+use Rattle.call_sending.proofs.Sent.{begun_list_same, begun_same, control_is_plain, control_no_reset, ended_same, is_plain, no_headers, parts_same, spent_same}
 use Rattle.call_standing.specs.Standing.{Holds, IsUnkept, StandsOn, State}
-use Rattle.call_standing.proofs.Sent.{begun_list_same, begun_same, control_is_plain, control_no_reset, ended_same, events_kept, is_control, is_plain, parts_same, plain, spent_same}
+use Rattle.call_standing.proofs.Sent.{events_kept}
 
 abbrev pub pushed : Frame → List ℕ → CallTrace → CallTrace
 pushed f resets t = record t { connection_trace = record t.connection_trace { frames = t.connection_trace.frames ++ Sent f ∷ [] }; resets = resets }
@@ -51,10 +53,10 @@ module _ (t : CallTrace) (f : Frame) (resets : List ℕ) (opened : open_block (s
   next = pushed f resets t
 
   begun_next : (id : ℕ) → is_begun t.connection_trace.role next.connection_trace.frames id ≡ is_begun t.connection_trace.role t.connection_trace.frames id
-  begun_next id = begun_same t.connection_trace.role t.connection_trace.frames f id (plain f is).no_headers
+  begun_next id = begun_same t.connection_trace.role t.connection_trace.frames f id (no_headers f is)
 
   open_before : (id : ℕ) → is_open t.connection_trace.role next.connection_trace.frames id ≡ true → is_open t.connection_trace.role t.connection_trace.frames id ≡ true
-  open_before id o = open_back t.connection_trace.role t.connection_trace.frames (f ∷ []) begun_next id o
+  open_before id o = open_back t.connection_trace.role t.connection_trace.frames (f ∷ []) id (begun_next id) o
 
   spent_next : (id : ℕ) → spent_on id (sent next.connection_trace.frames) ≡ spent_on id (sent t.connection_trace.frames)
   spent_next id = ap (spent_on id) (sent_push t.connection_trace.frames f) ∙ spent_same (sent t.connection_trace.frames) f opened is id
@@ -72,7 +74,7 @@ module _ (t : CallTrace) (f : Frame) (resets : List ℕ) (opened : open_block (s
     spent_is = spent_next id;
     ended_is = ended_next id;
     begun = λ e. sym (begun_next id) ∙ e;
-    begun_before = λ role e. sym (begun_same Client t.connection_trace.frames f id (plain f is).no_headers) ∙ e;
+    begun_before = λ role e. sym (begun_same Client t.connection_trace.frames f id (no_headers f is)) ∙ e;
     opened = open_before id;
   }
 
@@ -87,7 +89,7 @@ module _ (t : CallTrace) (f : Frame) (resets : List ℕ) (opened : open_block (s
     ahead = λ o. p ∙ h.ahead (open_before id o);
   }
   unkept_kept Client id p h = record {
-    unbegun = begun_same Client t.connection_trace.frames f id (plain f is).no_headers ∙ h.unbegun;
+    unbegun = begun_same Client t.connection_trace.frames f id (no_headers f is) ∙ h.unbegun;
     no_event = h.no_event;
     speaks = speaks_same t next id (untouched id p) [] h.speaks;
   }
@@ -118,7 +120,7 @@ module _ (t : CallTrace) (f : Frame) (resets : List ℕ) (opened : open_block (s
     once = h.once;
     only = λ past behind g split rst. only_by past behind g rst (last_or t.connection_trace.frames past behind (Sent f) (Sent g) split);
     unpadded = λ past behind b split. unpadded_by past behind b (last_or t.connection_trace.frames past behind (Sent f) (Sent (Content b)) split);
-    calls = λ role. h.calls role ∙ sym (begun_list_same Client t.connection_trace.frames f (plain f is).no_headers);
+    calls = λ role. h.calls role ∙ sym (begun_list_same Client t.connection_trace.frames f (no_headers f is));
   }
     where
       only_by : (past behind : List Step) (g : Frame) → is_rst_stream g ≡ true →
@@ -147,7 +149,7 @@ module _ (t : CallTrace) (f : Frame) (resets : List ℕ) (opened : open_block (s
       ap (λ (fs : List Frame). parts id t.connection_trace.written fs) (sent_push t.connection_trace.frames f)
       ∙ parts_same (sent t.connection_trace.frames) f opened is id t.connection_trace.written e
 
--- SETTINGS, PING, GOAWAY and WINDOW_UPDATE
+-- a frame that is part of no call
 pub control_holds : (t : CallTrace) (f : Frame) (s : State) → open_block (sent t.connection_trace.frames) ≡ None → is_control f ≡ true → Holds s t → Holds s (pushed f t.resets t)
 control_holds t f s opened is h =
     let none : is_rst_stream f ≡ false = control_no_reset f is in

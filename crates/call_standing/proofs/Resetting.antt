@@ -7,7 +7,6 @@ use Rattle.std.proofs.lemmas.List.{append-nil}
 use Rattle.std.proofs.lemmas.List.Elements.{Contains-append_left, Contains-append_right}
 use Rattle.std.proofs.lemmas.List.Folds.{list_any-append}
 use Rattle.hpack_tables.specs.declared.field.Field.{Field}
-use Rattle.h2_frames.specs.declared.code.ErrorCode.{ErrorCode}
 use Rattle.h2_frames.specs.declared.code.TheConstants.ErrorCode as code
 use Rattle.h2_frames.specs.declared.frame.Frame.{Frame}
 use Rattle.h2_frames.specs.declared.frame.Frame.TheVariants.{RstStream}
@@ -19,12 +18,12 @@ use Rattle.h2_exchange.specs.Exchange.{received, sent}
 use Rattle.h2_exchange.specs.Frames.{code_of, is_rst_stream, stream_of}
 use Rattle.h2_exchange.specs.Outgoing.{IsErrorReset}
 use Rattle.h2_exchange.specs.Requests.{IsRequest}
-use Rattle.h2_exchange.specs.StreamParts.{Part, Fields, Piece, Stopped, StreamEnd, Unclosed, Trailers, WasReset, IsResponse, end_by, has_begun, parts}
+use Rattle.h2_exchange.specs.StreamParts.{Part, Stopped, IsResponse, has_begun, parts}
 use Rattle.h2_exchange.specs.Streams.{has_rst_stream, is_begun, is_ended_by, is_live, is_open, is_over, is_reset}
 use Rattle.h2_exchange.specs.Windows.{spent_on}
 use Rattle.h2_exchange.proofs.Places.{and_parts, clash, first_true, not_true, or_parts, same_self, second_true}
 use Rattle.h2_exchange.proofs.Steps.{sent_push}
-use Rattle.grpc_heads.specs.CallEnd.{CallEnd, call_end_of}
+use Rattle.grpc_heads.specs.CallEnd.{call_end_of}
 use Rattle.grpc_heads.specs.Written.{response_fields}
 use Rattle.http_connection.specs.ConnectionTrace.{ConnectionTrace, IsSound, is_alive, wrote}
 use Rattle.http_connection.specs.Sends.{CarryReset, SendsWhere}
@@ -33,34 +32,13 @@ use Rattle.kept_calls.specs.CallState.{CallState, call_on}
 use Rattle.call_hearing.specs.declared.pending.Pending.{Pending}
 use Rattle.call_sending.specs.Spelling.{IsHeaded, Sends, Speaks, Spells, parts_on}
 use Rattle.call_sending.proofs.Kept.{prepared_same}
+use Rattle.call_sending.proofs.Sent.{begun_same, ended_same, no_headers, parts_stop, reset_is_plain, spent_same}
+use Rattle.call_sending.proofs.Stopping.{end_is, headed_more, is_stopped, request_stop, response_stop, same_begun, unstopped}
 use Rattle.call_standing.specs.declared.fate.Fate.{Fate}
 use Rattle.call_standing.specs.declared.fate.Fate.TheVariants.{Going, Refused, Starved, Dead}
 use Rattle.call_standing.specs.Standing.{Holds, IsGoing, IsUnkept, StandsFor, StandsOn, State, bare}
 use Rattle.call_standing.proofs.Pushed.{holds_pushed, on_kept, parts_beside, pushed}
 use Rattle.call_standing.proofs.Rest.{rest_of}
-use Rattle.call_standing.proofs.Sent.{begun_same, ended_same, parts_stop, plain, reset_is_plain, spent_same}
-use Rattle.call_standing.proofs.Stopping.{is_stopped, request_stop, response_stop, says, unstopped}
-
-not_begun : (ps : List Part) (why : ErrorCode) → has_begun (ps ++ Stopped why ∷ []) ≡ true → has_begun ps ≡ true
-not_begun [] why h = absurd cc
-not_begun (Fields f false ∷ ps) why h = refl
-not_begun (Fields f true ∷ ps) why h = absurd cc
-not_begun (Piece b l ∷ ps) why h = absurd cc
-not_begun (Stopped w ∷ ps) why h = absurd cc
-
-headed_more : (ps : List Part) (why : ErrorCode) → IsHeaded (ps ++ Stopped why ∷ [])
-headed_more [] why = tt
-headed_more (p ∷ ps) why = tt
-
-headed_stop : (head : List Field) (ps : List Part) (bytes : List ℕ) (ended : Bool) (why : ErrorCode) → IsHeaded ps → IsRequest head ps bytes ended → list_any is_stopped ps ≡ false →
-    IsRequest head (ps ++ Stopped why ∷ []) bytes ended
-headed_stop head [] bytes ended why some h n = absurd some
-headed_stop head (p ∷ ps) bytes ended why some h n = request_stop head p ps bytes ended why h n
-
-end_said : (read : List Field → CallEnd) (c : StreamEnd) → end_by response_fields read c ≡ option_map read (says c)
-end_said read (Trailers fields) = refl
-end_said read Unclosed = refl
-end_said read WasReset = refl
 
 not_open : (begun over ended : Bool) → over ≡ true → ((begun && not over) && not ended) ≡ true → ⊥
 not_open true true ended e h = cc
@@ -111,27 +89,27 @@ module _ (t : CallTrace) (f : Frame) (resets : List ℕ) (opened : open_block (s
       let r = response_stop response_fields (parts_on t (stream_of f)) h.bytes h.close (code_of f) h.response no_stop in
       record {
         bytes = h.bytes;
-        close = r.now;
-        response = subst (λ (ps : List Part). IsResponse response_fields ps h.bytes r.now) (sym parts_now) r.response;
+        close = r.0;
+        response = subst (λ (ps : List Part). IsResponse response_fields ps h.bytes r.0) (sym parts_now) r.1;
         text = h.text;
-        begins = λ b. h.begins (not_begun (parts_on t (stream_of f)) (code_of f) (ap has_begun (sym parts_now) ∙ b));
+        begins = λ b. h.begins (sym (ap has_begun parts_now ∙ same_begun (parts_on t (stream_of f)) (code_of f)) ∙ b);
         closes = λ c q.
-            h.closes c (end_said (call_end_of t.numbers) h.close ∙ ap (option_map (call_end_of t.numbers)) (sym r.same) ∙ sym (end_said (call_end_of t.numbers) r.now) ∙ q);
+            h.closes c (end_is (call_end_of t.numbers) h.close ∙ ap (option_map (call_end_of t.numbers)) (sym r.2) ∙ sym (end_is (call_end_of t.numbers) r.0) ∙ q);
       }
   spells_on Client rest e h =
       let some : IsHeaded (parts_on t (stream_of f)) = h.headed (ap (λ (r : Role). is_begun r t.connection_trace.frames (stream_of f)) (sym e) ∙ begun) in
       record {
         bytes = h.bytes;
         is_last = h.is_last;
-        headed = λ b. subst IsHeaded (sym parts_now) (headed_more (parts_on t (stream_of f)) (code_of f));
+        headed = λ b. subst IsHeaded (sym parts_now) (headed_more (parts_on t (stream_of f)) (Stopped (code_of f)) some);
         request = subst (λ (ps : List Part). IsRequest (asked_on t (stream_of f)).head ps h.bytes h.is_last) (sym parts_now)
-            (headed_stop (asked_on t (stream_of f)).head (parts_on t (stream_of f)) h.bytes h.is_last (code_of f) some h.request no_stop);
+            (request_stop (asked_on t (stream_of f)).head (parts_on t (stream_of f)) h.bytes h.is_last (code_of f) some h.request no_stop);
         text = h.text;
         closes = h.closes;
       }
 
   begun_next : (id : ℕ) → is_begun t.connection_trace.role next.connection_trace.frames id ≡ is_begun t.connection_trace.role t.connection_trace.frames id
-  begun_next id = begun_same t.connection_trace.role t.connection_trace.frames f id (plain f (reset_is_plain f rst)).no_headers
+  begun_next id = begun_same t.connection_trace.role t.connection_trace.frames f id (no_headers f (reset_is_plain f rst))
 
   ended_now : is_ended_by (sent next.connection_trace.frames) (stream_of f) ≡ is_ended_by (sent t.connection_trace.frames) (stream_of f)
   ended_now =

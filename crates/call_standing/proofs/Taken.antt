@@ -1,8 +1,14 @@
 -- Calls of which one more item was taken.
-use Rattle.std.proofs.Common.{◌≡◌, ℕ, zero, suc, ◌+◌, ◌<◌, ◌≤◌, ◌^◌, ◌==◌, Bool, true, false, List, [], ◌∷◌, ◌++◌, length, sum_by, slice_index_or, slice_set, Option, Some, None, inl, inr, refl, sym, ap, subst, ◌∙◌, arith}
+use Rattle.std.proofs.Common.{◌≡◌, ℕ, zero, suc, ◌+◌, ◌<◌, ◌≤◌, ◌^◌, ◌==◌, Bool, true, false, List, [], ◌∷◌, ◌++◌, length, sum_by, slice_index_or, slice_set, Option, Some, None, Ok, inl, inr, refl, sym, ap, subst, ◌∙◌, arith}
 use Rattle.std.specs.List.{position}
 use Rattle.std.proofs.lemmas.Bool.{eqb-true}
-use Rattle.grpc_heads.specs.CallEnd.{CallEnd, HalfClose}
+use Rattle.grpc_heads.specs.CallEnd.{CallEnd, HalfClose, Status}
+use Rattle.grpc_heads.specs.GrpcStatus.{GrpcStatus}
+use Rattle.grpc_heads.specs.Trailers.{status_in_trailers}
+use Rattle.grpc_heads.specs.Written.{response_fields, trailer_fields}
+use Rattle.schema_numbers.specs.Numbers.{Numbers}
+use Rattle.h2_exchange.specs.Malformed.{is_malformed_head}
+use Rattle.std.specs.Prelude.{not}
 use Rattle.grpc_framing.specs.CutterState.{CutterState}
 use Rattle.hpack_tables.specs.declared.field.Field.{Field}
 use Rattle.hpack_tables.specs.EntrySizes.{size_of}
@@ -24,13 +30,15 @@ use Rattle.call_hearing.specs.declared.pending.Pending.TheVariants.{Nothing, Cut
 use Rattle.call_hearing.specs.Listening.{Hears, cut_tells, held_by, held_while, steps_of, still_told, told_later}
 use Rattle.call_sending.specs.Spelling.{AreSuited, Prepares, Sends}
 use Rattle.call_sending.proofs.Kept.{IsUntouched, sends_kept, speaks_same}
+use Rattle.call_sending.proofs.Taking.{queued_elsewhere, sends_end, sends_message, taken_untouched}
 use Rattle.call_standing.specs.declared.fate.Fate.{Fate}
 use Rattle.call_standing.specs.declared.fate.Fate.TheVariants.{Going}
 use Rattle.call_standing.specs.Standing.{Holds, IsGoing, IsUnkept, StandsFor, StandsOn, State, bare, is_once}
 use Rattle.call_standing.proofs.Found.{IsChanged, changed, found}
 use Rattle.call_standing.proofs.Rest.{rest_of}
 use Rattle.call_standing.proofs.Taking.{going}
-use Rattle.call_standing.proofs.Takes.{half_prepared, queued_elsewhere, sends_end, sends_message}
+use Rattle.call_standing.specs.Ends.{last_block, last_ending}
+use Rattle.call_standing.proofs.Takes.{half_prepared, status_prepared}
 use Rattle.call_standing.proofs.Went.{hears_same}
 
 -- what is kept of the peer of a call stays
@@ -46,18 +54,7 @@ module _ (t : CallTrace) (id k : ℕ) (what : Item CallEnd) (apart : (id == k) �
   taken = took id what t
 
   untouched : IsUntouched t taken k
-  untouched = record {
-    role_is = refl;
-    numbers_are = refl;
-    queued_is = queued_elsewhere t id k what apart;
-    head_is = refl;
-    parts_are = refl;
-    spent_is = refl;
-    ended_is = refl;
-    begun = λ e. e;
-    begun_before = λ r e. e;
-    opened = λ o. o;
-  }
+  untouched = taken_untouched t id k what apart
 
   unkept_beside : (role : Role) → IsUnkept role t k → IsUnkept role taken k
   unkept_beside Server h = record {
@@ -207,7 +204,7 @@ module _ (items : List Call) (role : Role) (pending : Pending) (stream at : ℕ)
       StandsFor stands output fate conn (state_with role pending (slice_set items at new)) (took stream (Message m) t)
   takes_message m small same =
       takes_so (Message m) (with_message m (state_of call)) same (record { stream_is = refl; receiving_is = refl; cutter_is = refl })
-      (sends_message (bare t) (state_of call) open_call unended m (omega (arith, small)))
+      (λ s. sends_message (bare t) (state_of call) open_call unended s m (omega (arith, small)))
 
   pub takes_end : (close : CallEnd) (ending : Ending) (fields : List Field) → ended ending ≡ true → is_sent ending ≡ false → sum_by size_of fields ≤ 65536 →
       state_of new ≡ closed_by ending fields (state_of call) →
@@ -216,13 +213,41 @@ module _ (items : List Call) (role : Role) (pending : Pending) (stream at : ℕ)
       StandsFor stands output fate conn (state_with role pending (slice_set items at new)) (took stream (Finish close) t)
   takes_end close ending fields ends unsent fits same prepares =
       takes_so (Finish close) (closed_by ending fields (state_of call)) same (record { stream_is = refl; receiving_is = refl; cutter_is = refl })
-      (sends_end (bare t) (state_of call) open_call unended close ending fields ends unsent fits prepares)
+      (λ s. sends_end (bare t) (state_of call) open_call unended s close ending fields ends unsent fits prepares)
 
   pub takes_half_close : (fields : List Field) → fields ≡ [] → state_of new ≡ closed_by end.HalfClose fields (state_of call) →
       StandsFor stands output fate conn (state_with role pending (slice_set items at new)) (took stream (Finish HalfClose) t)
   takes_half_close fields none same =
       takes_end HalfClose end.HalfClose fields refl refl (subst (λ (fs : List Field). sum_by size_of fs ≤ 65536) (sym none) (omega arith)) same
       (λ suited q r. half_prepared t.connection_trace.role (bare t) call.stream fields suited)
+
+  none_ended : is_ended t call.stream ≡ false
+  none_ended = subst (λ (k : ℕ). is_ended t k ≡ false) (sym on) (not_true _ (and_parts _ _ taking).1)
+
+  -- a status, with the header block that says it
+  pub takes_status : (n : Numbers) (status : GrpcStatus) (is_alone : Bool) (fields : List Field) → t.numbers ≡ n → status_in_trailers n (trailer_fields n status) ≡ Ok status →
+      is_malformed_head Client (response_fields ++ trailer_fields n status) ≡ false → is_alone ≡ not call.has_message → fields ≡ last_block is_alone n status → sum_by size_of fields ≤ 65536 →
+      state_of new ≡ closed_by (last_ending is_alone) fields (state_of call) → StandsFor stands output fate conn (state_with role pending (slice_set items at new)) (took stream (Finish (Status status)) t)
+  takes_status n status is_alone fields numbers read sound alone same fits now =
+      takes_end (Status status) (last_ending is_alone) fields (ends is_alone) (unsent is_alone) fits now
+      (λ suited empty first. subst (Prepares t.connection_trace.role (took call.stream (Finish (Status status)) (bare t)) call.stream (last_ending is_alone)) (sym same)
+      (status_prepared n status read sound (bare t) call.stream numbers t.connection_trace.role is_alone none_ended (λ e. empty (was_none call.has_message (sym alone ∙ e))) (λ e. first (was_some call.has_message (sym alone ∙ e))) suited))
+    where
+      ends : (b : Bool) → ended (last_ending b) ≡ true
+      ends true = refl
+      ends false = refl
+
+      unsent : (b : Bool) → is_sent (last_ending b) ≡ false
+      unsent true = refl
+      unsent false = refl
+
+      was_none : (b : Bool) → not b ≡ true → b ≡ false
+      was_none true e = absurd cc
+      was_none false e = refl
+
+      was_some : (b : Bool) → not b ≡ false → b ≡ true
+      was_some true e = refl
+      was_some false e = absurd cc
 
 -- what is kept of peers stays, so no event comes nearer
 pub later_kept : (items : List Call) (pending : Pending) (stream at : ℕ) (call new : Call) → position (λ (c : Call). c.stream == stream) items ≡ Some at → call ≡ slice_index_or items at call →

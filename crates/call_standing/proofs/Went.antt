@@ -92,7 +92,7 @@ hears_same Client es reported pending old new stream cutter Closed h = ap (hear.
 
 -- ---- where a frame stands
 
-last_split : {A : Type 0} (x past more : List A) (s r : A) → x ++ s ∷ [] ≡ past ++ r ∷ more → ((x ≡ past) × (s ≡ r)) ⊎ ((rest : List A) × (x ≡ past ++ r ∷ rest))
+pub last_split : {A : Type 0} (x past more : List A) (s r : A) → x ++ s ∷ [] ≡ past ++ r ∷ more → ((x ≡ past) × (s ≡ r)) ⊎ ((rest : List A) × (x ≡ past ++ r ∷ rest))
 last_split [] [] more s r e = inl (refl, cc)
 last_split [] (p ∷ []) more s r e = absurd cc
 last_split [] (p ∷ q ∷ past) more s r e = absurd cc

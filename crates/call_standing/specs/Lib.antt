@@ -1,3 +1,4 @@
 pub mod Standing
 pub mod Steps
+pub mod Ends
 pub mod Laws

@@ -7,5 +7,7 @@
 
 mod fate;
 pub mod laws;
+mod written;
 
 pub use fate::{Fate, first, shifted};
+pub use written::statuses_are_written;
