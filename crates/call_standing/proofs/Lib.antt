@@ -22,3 +22,4 @@ pub mod Trailing
 pub mod Heading
 pub mod Begins
 pub mod Calling
+pub mod Refusals
