@@ -1,0 +1,11 @@
+pub mod Beside
+pub mod Known
+pub mod Answered
+pub mod Receives
+pub mod TakesIn
+pub mod Unheard
+pub mod Listened
+pub mod Given
+pub mod Ends
+pub mod Begun
+pub mod Begins
