@@ -117,12 +117,28 @@ module _ (t : CallTrace) (s : State) (id : ℕ) (fields : List Field) (last : Bo
   pub begun_by_now : is_begun t.connection_trace.role t.connection_trace.frames id ≡ true
   begun_by_now = event_begun t.connection_trace.role t.connection_trace.limits t.connection_trace.heads id t.connection_trace.frames t.connection_trace.given later (Head id fields last) split (same_self id)
 
+  unended_yet : is_ended t id ≡ false
+  unended_yet = ap (list_any is_end) unheard_yet.nothing
+
+  open_prepared : (role : Role) → Prepares role t id (began id was.Open false).ending []
+  open_prepared Server = tt
+  open_prepared Client = tt
+
+  pub sends_begun : (r : Receiving) → Sends t (began id r false)
+  sends_begun r = record {
+    speaks = unheard_yet.speaks;
+    ended_is = unended_yet;
+    sent_is = λ e. absurd cc;
+    fits = omega arith;
+    message_is = λ e. ap (flat_map text_of) unheard_yet.nothing;
+    first_is = λ e. absurd cc;
+    ahead = unheard_yet.ahead;
+    prepared = λ suited. open_prepared t.connection_trace.role;
+  }
+
   -- ---- it begins a call
 
   module _ (method : Method) (is : method_by (head_of fields) ≡ Ok method) where
-    abbrev call : CallState
-    call = began id was.Open false
-
     abbrev pub behind : Pending
     behind = if last then End id else Nothing
 
@@ -135,25 +151,6 @@ module _ (t : CallTrace) (s : State) (id : ℕ) (fields : List Field) (last : Bo
         by : (b : Bool) → is_cut (if b then End id else Nothing) k ≡ false
         by true = refl
         by false = refl
-
-    unended : is_ended t id ≡ false
-    unended = ap (list_any is_end) unheard_yet.nothing
-
-    prepared : (role : Role) → Prepares role t id call.ending []
-    prepared Server = tt
-    prepared Client = tt
-
-    sends_new : Sends t (began id was.Open false)
-    sends_new = record {
-      speaks = unheard_yet.speaks;
-      ended_is = unended;
-      sent_is = λ e. absurd cc;
-      fits = omega arith;
-      message_is = λ e. ap (flat_map text_of) unheard_yet.nothing;
-      first_is = λ e. absurd cc;
-      ahead = unheard_yet.ahead;
-      prepared = λ suited. prepared t.connection_trace.role;
-    }
 
     told_new : is_told_of t.connection_trace.role (t.reported ++ Asked (Begun id method) ∷ []) id ≡ true
     told_new =
@@ -170,7 +167,7 @@ module _ (t : CallTrace) (s : State) (id : ℕ) (fields : List Field) (last : Bo
       refl,
       begun_by_now,
       record {
-        sends = sends_kept t next (began id was.Open false) (untouched t (Head id fields last) (Asked (Begun id method) ∷ []) t.taken id refl) sends_new;
+        sends = sends_kept t next (began id was.Open false) (untouched t (Head id fields last) (Asked (Begun id method) ∷ []) t.taken id refl) (sends_begun was.Open);
         hears = subst (λ (r : Role). Hears r (t.connection_trace.given ++ Head id fields last ∷ []) (t.reported ++ Asked (Begun id method) ∷ []) behind (began id was.Open false) was.Open) (sym server) hears_new;
         told = λ e. told_new;
       },

@@ -9,3 +9,6 @@ pub mod Given
 pub mod Ends
 pub mod Begun
 pub mod Begins
+pub mod Cuts
+pub mod Finished
+pub mod Declines
