@@ -1,7 +1,7 @@
 -- The reset that answers a stream error keeps what holds of calls, also where its stream is over.
-use Rattle.std.proofs.Common.{◌≡◌, ◌⊎◌, ℕ, ◌==◌, Bool, true, false, ◌&&◌, ◌||◌, List, [], ◌∷◌, ◌++◌, length, Option, Some, None, refl, sym, ap, subst, ◌∙◌, inl, inr, arith}
+use Rattle.std.proofs.Common.{◌≡◌, ℕ, ◌==◌, Bool, true, false, ◌&&◌, ◌||◌, List, [], ◌∷◌, ◌++◌, Option, Some, None, refl, sym, ap, subst, ◌∙◌, inl, inr, arith}
 use Rattle.std.specs.Prelude.{not, option_map}
-use Rattle.std.specs.List.{Contains, list_any}
+use Rattle.std.specs.List.{list_any}
 use Rattle.std.proofs.lemmas.Bool.{eqb-true}
 use Rattle.std.proofs.lemmas.List.Folds.{list_any-append}
 use Rattle.hpack_tables.specs.declared.field.Field.{Field}
@@ -17,8 +17,8 @@ use Rattle.h2_exchange.specs.Requests.{IsRequest}
 use Rattle.h2_exchange.specs.StreamParts.{Part, Fields, Piece, Stopped, StreamEnd, Unclosed, Trailers, WasReset, IsResponse, end_by, has_begun, parts}
 use Rattle.h2_exchange.specs.Streams.{has_rst_stream, is_begun, is_ended_by, is_open, is_over}
 use Rattle.h2_exchange.specs.Windows.{spent_on}
-use Rattle.h2_exchange.proofs.Places.{and_parts, clash, first_true, not_true, same_self, second_true}
-use Rattle.h2_exchange.proofs.Steps.{over_stays, sent_push}
+use Rattle.h2_exchange.proofs.Places.{clash, first_true, same_self, second_true}
+use Rattle.h2_exchange.proofs.Steps.{sent_push}
 use Rattle.grpc_heads.specs.CallEnd.{CallEnd, call_end_of}
 use Rattle.grpc_heads.specs.Written.{response_fields}
 use Rattle.grpc_stream.specs.CallTrace.{CallTrace, asked_on}

@@ -1,23 +1,22 @@
 -- The head of a request that begins a call.
-use Rattle.std.proofs.Common.{◌≡◌, ◌⊎◌, ℕ, ◌==◌, ◌≤◌, Bool, true, false, ◌&&◌, ◌||◌, List, [], ◌∷◌, ◌++◌, map, Option, Some, None, Ok, refl, sym, ap, subst, ◌∙◌, inl, inr, arith}
+use Rattle.std.proofs.Common.{◌≡◌, ℕ, ◌==◌, Bool, true, false, ◌||◌, List, [], ◌∷◌, ◌++◌, map, Option, Some, None, Ok, refl, sym, ap, subst, ◌∙◌, inl, inr, arith}
 use Rattle.std.specs.Prelude.{not, if◌then◌else◌}
 use Rattle.std.specs.List.{flat_map, list_any}
 use Rattle.std.proofs.lemmas.Bool.{eqb-true}
 use Rattle.std.proofs.lemmas.List.{map-append}
 use Rattle.std.proofs.lemmas.List.Folds.{list_any-append}
 use Rattle.hpack_tables.specs.declared.field.Field.{Field}
-use Rattle.grpc_heads.specs.CallEnd.{CallEnd, compressed, method_by, too_long, truncated}
+use Rattle.grpc_heads.specs.CallEnd.{compressed, method_by, too_long, truncated}
 use Rattle.grpc_heads.specs.Heads.{head_of}
 use Rattle.grpc_heads.specs.declared.head.Method.{Method}
 use Rattle.h2_exchange.specs.declared.role.Role.{Role}
 use Rattle.h2_exchange.specs.declared.role.Role.TheVariants.{Client, Server}
 use Rattle.h2_exchange.specs.Calls.{Begun, Finished, head_calls}
 use Rattle.h2_exchange.specs.Events.{Event, Head}
-use Rattle.h2_exchange.specs.StreamParts.{Item}
 use Rattle.h2_exchange.specs.Streams.{is_begun}
 use Rattle.h2_exchange.proofs.Places.{any_push, clash, neither, not_true, or_parts, same_self, second_true}
 use Rattle.http_connection.specs.ConnectionTrace.{events_in}
-use Rattle.grpc_stream.specs.CallTrace.{CallTrace, PeerEvent, Asked, begins_on, is_end, is_ended, is_told_of, queued_on, text_of}
+use Rattle.grpc_stream.specs.CallTrace.{CallTrace, Asked, begins_on, is_end, is_ended, is_told_of, text_of}
 use Rattle.kept_calls.specs.declared.call.Receiving.{Receiving}
 use Rattle.kept_calls.specs.declared.call.Receiving.TheVariants as was
 use Rattle.kept_calls.specs.CallState.{CallState, began, call_on}
@@ -30,9 +29,10 @@ use Rattle.call_hearing.proofs.Lasting.{heads_first, listening_lasts}
 use Rattle.call_hearing.proofs.Places.{servers_hear}
 use Rattle.call_sending.specs.Spelling.{Prepares, Sends}
 use Rattle.call_sending.proofs.Kept.{sends_kept}
-use Rattle.call_standing.specs.Standing.{Holds, IsUnheard, IsUnkept, Stands, StandsOn, State, is_once}
+use Rattle.call_standing.specs.Standing.{Holds, IsUnheard, IsUnkept, StandsOn, State, is_once}
 use Rattle.call_telling.proofs.Begun.{event_begun}
-use Rattle.call_telling.proofs.TakesIn.{IsBesides, gone_silent, takes_in, took_in, untouched}
+use Rattle.call_telling.proofs.TakesIn.{gone_silent, takes_in, untouched}
+use Rattle.call_telling.specs.Giving.{took_in}
 
 -- ---- one call more is kept
 

@@ -1,7 +1,6 @@
 -- A stream on which an event comes was begun.
-use Rattle.std.proofs.Common.{◌≡◌, ℕ, Bool, true, false, ◌&&◌, ◌||◌, List, [], ◌∷◌, ◌++◌, Option, Some, None, refl, sym, ap, subst, ◌∙◌, append_assoc}
+use Rattle.std.proofs.Common.{◌≡◌, ℕ, Bool, true, false, List, [], ◌∷◌, ◌++◌, Option, Some, None, refl, sym, ap, ◌∙◌, append_assoc}
 use Rattle.std.specs.Prelude.{not, is_some, if◌then◌else◌}
-use Rattle.std.specs.List.{list_any}
 use Rattle.std.proofs.lemmas.List.Folds.{list_any-append}
 use Rattle.h2_exchange.specs.declared.limits.H2Limits.{H2Limits}
 use Rattle.h2_exchange.specs.declared.role.Role.{Role}
@@ -9,7 +8,7 @@ use Rattle.h2_exchange.specs.Content.{Outcome}
 use Rattle.h2_exchange.specs.Events.{Event, events_of}
 use Rattle.h2_exchange.specs.Exchange.{Step, Received, Sent, collect, front_before}
 use Rattle.h2_exchange.specs.Stops.{Stop, events, stop_at}
-use Rattle.h2_exchange.specs.Streams.{begins, is_begun, is_live, is_live_at, is_over}
+use Rattle.h2_exchange.specs.Streams.{begins, is_begun, is_live, is_over}
 use Rattle.h2_exchange.proofs.Looking.{some_more}
 use Rattle.h2_exchange.proofs.Places.{and_false, any_push, clash, first_true, neither, or_parts, second_true}
 use Rattle.h2_exchange.proofs.Steps.{begun_push}

@@ -1,7 +1,6 @@
 -- What holds of calls goes on where nothing is sent: frames are received, or more header blocks are known.
-use Rattle.std.proofs.Common.{◌≡◌, ◌⊎◌, ℕ, Bool, true, false, ◌&&◌, List, [], ◌∷◌, length, Option, Some, None, refl, sym, ap, subst, ◌∙◌, inl, inr, arith}
+use Rattle.std.proofs.Common.{◌≡◌, ℕ, Bool, true, false, ◌&&◌, List, [], Option, Some, None, refl, sym, ap, subst, ◌∙◌, inl, inr, arith}
 use Rattle.std.specs.Prelude.{not}
-use Rattle.std.specs.List.{flat_map}
 use Rattle.h2_frames.specs.declared.frame.Frame.{Frame}
 use Rattle.h2_exchange.specs.declared.role.Role.{Role}
 use Rattle.h2_exchange.specs.declared.role.Role.TheVariants.{Client, Server}
@@ -12,7 +11,7 @@ use Rattle.h2_exchange.specs.Streams.{begun, is_begun, is_ended_by, is_open, is_
 use Rattle.h2_exchange.specs.Windows.{spent_on}
 use Rattle.h2_exchange.proofs.Places.{and_parts, clash, not_true}
 use Rattle.grpc_heads.specs.Written.{response_fields}
-use Rattle.grpc_stream.specs.CallTrace.{CallTrace, queued_on, text_of}
+use Rattle.grpc_stream.specs.CallTrace.{CallTrace}
 use Rattle.kept_calls.specs.CallState.{CallState, call_on}
 use Rattle.call_hearing.specs.declared.pending.Pending.{Pending}
 use Rattle.call_sending.specs.Spelling.{Speaks, Spells, parts_on}

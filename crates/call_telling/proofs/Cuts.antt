@@ -1,5 +1,5 @@
 -- The bytes of a call are cut: what holds behind each message, behind the last, and behind what a client refuses.
-use Rattle.std.proofs.Common.{◌≡◌, ◌⊎◌, ℕ, ◌+◌, ◌<◌, ◌==◌, Bool, true, false, ◌||◌, List, [], ◌∷◌, ◌++◌, length, map, Option, Some, None, refl, sym, ap, subst, ◌∙◌, inl, inr, append_assoc, arith}
+use Rattle.std.proofs.Common.{◌≡◌, ℕ, ◌==◌, Bool, true, false, List, [], ◌∷◌, ◌++◌, Option, Some, None, refl, sym, ap, subst, ◌∙◌, inl, inr, append_assoc}
 use Rattle.std.specs.List.{list_any}
 use Rattle.std.proofs.lemmas.Bool.{eqb-true}
 use Rattle.std.proofs.lemmas.List.{append-nil}
@@ -10,16 +10,12 @@ use Rattle.grpc_framing.specs.declared.cutter.Cut.TheVariants as answer
 use Rattle.grpc_heads.specs.CallEnd.{CallEnd, compressed, too_long}
 use Rattle.h2_exchange.specs.declared.role.Role.{Role}
 use Rattle.h2_exchange.specs.declared.role.Role.TheVariants.{Client, Server}
-use Rattle.h2_exchange.specs.Calls as call
 use Rattle.h2_exchange.specs.Calls.{Broken, cut}
 use Rattle.h2_exchange.specs.StreamParts.{Item}
 use Rattle.h2_exchange.proofs.Places.{first_true, neither}
 use Rattle.http_connection.specs.ConnectionTrace.{ConnectionTrace, IsSound}
-use Rattle.grpc_stream.specs.declared.event.CallEvent.{CallEvent}
-use Rattle.grpc_stream.specs.declared.event.CallEvent.TheVariants as says
 use Rattle.grpc_stream.specs.CallTrace as trace
 use Rattle.grpc_stream.specs.CallTrace.{CallTrace, PeerEvent, Asked, begins_on, queued_on}
-use Rattle.grpc_stream.specs.NextEvent.{GivesCallEvent}
 use Rattle.kept_calls.specs.declared.call.Receiving.{Receiving}
 use Rattle.kept_calls.specs.declared.call.Receiving.TheVariants as was
 use Rattle.kept_calls.specs.CallState.{CallState, call_on}
@@ -30,23 +26,22 @@ use Rattle.call_hearing.specs.Listening.{Hears, cut_tells, held_by, held_while, 
 use Rattle.call_hearing.proofs.Cutting.{cuts_go_on}
 use Rattle.call_hearing.proofs.Lasting.{listening_lasts}
 use Rattle.call_sending.proofs.Kept.{IsUntouched, sends_kept, speaks_same}
-use Rattle.call_standing.specs.Standing.{Holds, IsGoing, IsGone, IsUnkept, Stands, StandsOn, State, bare, is_once}
+use Rattle.call_standing.specs.Standing.{Holds, IsGoing, IsUnkept, StandsOn, State, bare, is_once}
 use Rattle.call_standing.specs.Steps.{GoesQuietly}
 use Rattle.call_standing.proofs.Found.{IsChanged}
 use Rattle.call_standing.proofs.Quiet.{quiet_start}
 use Rattle.call_standing.proofs.Rest.{rest_of}
-use Rattle.call_standing.proofs.Told.{gives_one, told}
-use Rattle.call_telling.specs.Giving.{is_listening, listens}
-use Rattle.call_telling.proofs.Listened.{unchanged}
+use Rattle.call_standing.proofs.Told.{told}
+use Rattle.call_telling.specs.Giving.{is_listening, listens, told_more}
 use Rattle.call_telling.proofs.TakesIn.{sends_as, with_peer}
 
 -- ---- so much more was told
 
 module _ (t : CallTrace) (ps : List PeerEvent) (taken : List (ℕ × Item CallEnd)) where
-  abbrev pub told_more : CallTrace
-  told_more = record t { reported = t.reported ++ ps; taken = taken }
+  abbrev next : CallTrace
+  next = told_more t ps taken
 
-  untouched : (id : ℕ) → queued_on told_more id ≡ queued_on t id → IsUntouched t told_more id
+  untouched : (id : ℕ) → queued_on next id ≡ queued_on t id → IsUntouched t next id
   untouched id queued = record {
     role_is = refl;
     numbers_are = refl;
@@ -65,27 +60,27 @@ module _ (t : CallTrace) (ps : List PeerEvent) (taken : List (ℕ × Item CallEn
   told_still Client id e = refl
 
   module _ (none : (id : ℕ) → list_any (begins_on id) ps ≡ false) where
-    unkept_more : (role : Role) (id : ℕ) → queued_on told_more id ≡ queued_on t id → IsUnkept role t id → IsUnkept role told_more id
+    unkept_more : (role : Role) (id : ℕ) → queued_on next id ≡ queued_on t id → IsUnkept role t id → IsUnkept role next id
     unkept_more Server id queued h = record {
       no_head = h.no_head;
       no_bytes = h.no_bytes;
       no_end = h.no_end;
       untold = list_any-append (begins_on id) t.reported ps ∙ neither (list_any (begins_on id) t.reported) (list_any (begins_on id) ps) h.untold (none id);
       nothing = queued ∙ h.nothing;
-      speaks = speaks_same t told_more id (untouched id queued) [] h.speaks;
+      speaks = speaks_same t next id (untouched id queued) [] h.speaks;
       ahead = h.ahead;
     }
-    unkept_more Client id queued h = record { unbegun = h.unbegun; no_event = h.no_event; speaks = speaks_same t told_more id (untouched id queued) [] h.speaks }
+    unkept_more Client id queued h = record { unbegun = h.unbegun; no_event = h.no_event; speaks = speaks_same t next id (untouched id queued) [] h.speaks }
 
     -- a stream of which nothing is cut, or on which no call stands that is heard
-    beside : (before now : Pending) (id : ℕ) (o : Option CallState) → (is_cut now id ≡ false → is_cut before id ≡ false) → queued_on told_more id ≡ queued_on t id → StandsOn t before id o → StandsOn told_more now id o
+    beside : (before now : Pending) (id : ℕ) (o : Option CallState) → (is_cut now id ≡ false → is_cut before id ≡ false) → queued_on next id ≡ queued_on t id → StandsOn t before id o → StandsOn next now id o
     beside before now id None quiet queued (inl h) = inl (unkept_more t.connection_trace.role id queued h)
-    beside before now id None quiet queued (inr h) = inr (record { begun = h.begun; over = h.over; rest = h.rest; speaks = speaks_same t told_more id (untouched id queued) h.rest h.speaks; silent = h.silent })
+    beside before now id None quiet queued (inr h) = inr (record { begun = h.begun; over = h.over; rest = h.rest; speaks = speaks_same t next id (untouched id queued) h.rest h.speaks; silent = h.silent })
     beside before now id (Some c) quiet queued h = (
       h.0,
       h.1,
       record {
-        sends = sends_kept t told_more c (subst (IsUntouched t told_more) (sym h.0) (untouched id queued)) h.2.sends;
+        sends = sends_kept t next c (subst (IsUntouched t next) (sym h.0) (untouched id queued)) h.2.sends;
         hears = listening_lasts.pending t.connection_trace.role t.connection_trace.given (t.reported ++ ps) before now c c.receiving (subst (λ (k : ℕ). is_cut now k ≡ false → is_cut before k ≡ false) (sym h.0) quiet)
             (listening_lasts.reported t.connection_trace.role t.connection_trace.given t.reported ps before c c.receiving h.2.hears);
         told = λ e. told_still t.connection_trace.role c.stream (h.2.told e);
@@ -96,20 +91,20 @@ module _ (t : CallTrace) (ps : List PeerEvent) (taken : List (ℕ × Item CallEn
 
     module _ (s : State) (cs : List CallState) (now : Pending) (c d : CallState) (is : IsChanged c.stream c d s.calls cs) (pending : s.pending ≡ Cut c.stream)
         (told_is : still_told t.connection_trace.role s.calls (Cut c.stream) ≡ ps ++ still_told t.connection_trace.role cs now)
-        (queued : (id : ℕ) → (c.stream == id) ≡ false → queued_on told_more id ≡ queued_on t id)
-        (turned : StandsOn t (Cut c.stream) c.stream (Some c) → StandsOn told_more now c.stream (Some d)) (h : Holds s t) where
+        (queued : (id : ℕ) → (c.stream == id) ≡ false → queued_on next id ≡ queued_on t id)
+        (turned : StandsOn t (Cut c.stream) c.stream (Some c) → StandsOn next now c.stream (Some d)) (h : Holds s t) where
       stood : (id : ℕ) → StandsOn t (Cut c.stream) id (call_on id s.calls)
       stood id = subst (λ (p : Pending). StandsOn t p id (call_on id s.calls)) pending (h.each id)
 
-      each_now : (id : ℕ) (b : Bool) → (c.stream == id) ≡ b → StandsOn told_more now id (call_on id cs)
+      each_now : (id : ℕ) (b : Bool) → (c.stream == id) ≡ b → StandsOn next now id (call_on id cs)
       each_now id true e =
           let same : c.stream ≡ id = eqb-true c.stream id e in
-          subst (λ (n : ℕ). StandsOn told_more now n (call_on n cs)) same
-          (subst (StandsOn told_more now c.stream) (sym is.here) (turned (subst (StandsOn t (Cut c.stream) c.stream) is.was (stood c.stream))))
+          subst (λ (n : ℕ). StandsOn next now n (call_on n cs)) same
+          (subst (StandsOn next now c.stream) (sym is.here) (turned (subst (StandsOn t (Cut c.stream) c.stream) is.was (stood c.stream))))
       each_now id false e =
-          subst (StandsOn told_more now id) (sym (is.other id e)) (beside (Cut c.stream) now id (call_on id s.calls) (λ q. e) (queued id e) (stood id))
+          subst (StandsOn next now id) (sym (is.other id e)) (beside (Cut c.stream) now id (call_on id s.calls) (λ q. e) (queued id e) (stood id))
 
-      pub turned_holds : Holds (record { role = s.role; calls = cs; pending = now }) told_more
+      pub turned_holds : Holds (record { role = s.role; calls = cs; pending = now }) next
       turned_holds = record {
         role_is = h.role_is;
         told = h.told ∙ ap (λ (p : Pending). t.reported ++ still_told t.connection_trace.role s.calls p) pending ∙ ap (λ (l : List PeerEvent). t.reported ++ l) told_is
@@ -126,21 +121,21 @@ module _ (t : CallTrace) (ps : List PeerEvent) (none : (id : ℕ) → list_any (
     (is : IsChanged c.stream c (with_peer r k c) s.calls cs) (pending : s.pending ≡ Cut c.stream)
     (told_is : still_told t.connection_trace.role s.calls (Cut c.stream) ≡ ps ++ still_told t.connection_trace.role cs now)
     (hears : Hears t.connection_trace.role t.connection_trace.given (t.reported ++ ps) now (with_peer r k c) r) (h : Holds s t) where
-  abbrev next : CallTrace
-  next = told_more t ps t.taken
+  abbrev told_alone : CallTrace
+  told_alone = told_more t ps t.taken
 
-  cut_here : StandsOn t (Cut c.stream) c.stream (Some c) → StandsOn next now c.stream (Some (with_peer r k c))
+  cut_here : StandsOn t (Cut c.stream) c.stream (Some c) → StandsOn told_alone now c.stream (Some (with_peer r k c))
   cut_here (on, begun, m) = (
     refl,
     begun,
     record {
-      sends = sends_kept t next (with_peer r k c) (untouched t ps t.taken c.stream refl) (sends_as t c r k m.sends);
+      sends = sends_kept t told_alone (with_peer r k c) (untouched t ps t.taken c.stream refl) (sends_as t c r k m.sends);
       hears = hears;
       told = λ e. told_still t ps t.taken t.connection_trace.role c.stream (m.told e);
     },
   )
 
-  pub cut_holds : Holds (record { role = s.role; calls = cs; pending = now }) next
+  pub cut_holds : Holds (record { role = s.role; calls = cs; pending = now }) told_alone
   cut_holds = turned_holds t ps t.taken none s cs now c (with_peer r k c) is pending told_is (λ id e. refl) cut_here h
 
 -- ---- what is still told of it

@@ -1,5 +1,5 @@
 -- Calls that a server refuses: an end inside a message, bytes that are no message, and a head that asks for nothing served.
-use Rattle.std.proofs.Common.{◌≡◌, ◌⊎◌, ℕ, ◌==◌, ◌≤◌, Bool, true, false, ◌||◌, List, [], ◌∷◌, ◌++◌, map, sum_by, Option, Some, None, Err, refl, sym, ap, subst, ◌∙◌, inl, inr, append_assoc, arith}
+use Rattle.std.proofs.Common.{◌≡◌, ℕ, ◌==◌, ◌≤◌, Bool, true, false, List, [], ◌∷◌, ◌++◌, map, sum_by, Some, None, Err, refl, sym, ap, subst, ◌∙◌}
 use Rattle.std.specs.Prelude.{if◌then◌else◌}
 use Rattle.std.specs.List.{flat_map, list_any}
 use Rattle.std.proofs.lemmas.Bool.{eqb-true}
@@ -12,36 +12,36 @@ use Rattle.grpc_heads.specs.Heads.{head_of}
 use Rattle.hpack_tables.specs.declared.field.Field.{Field}
 use Rattle.hpack_tables.specs.EntrySizes.{size_of}
 use Rattle.h2_exchange.specs.declared.role.Role.{Role}
-use Rattle.h2_exchange.specs.declared.role.Role.TheVariants.{Client, Server}
+use Rattle.h2_exchange.specs.declared.role.Role.TheVariants.{Server}
 use Rattle.h2_exchange.specs.Calls.{Declined, Dropped, cut, end_calls, head_calls, is_begun_call}
 use Rattle.h2_exchange.specs.Events.{Event, Ended, Head}
 use Rattle.h2_exchange.specs.StreamParts.{Item}
 use Rattle.h2_exchange.specs.Streams.{is_begun}
-use Rattle.h2_exchange.proofs.Places.{any_push, clash, neither, same_self, second_true}
+use Rattle.h2_exchange.proofs.Places.{any_push, clash, same_self, second_true}
 use Rattle.http_connection.specs.ConnectionTrace.{events_in}
-use Rattle.grpc_stream.specs.CallTrace.{CallTrace, PeerEvent, Asked, begins_on, queued_on}
+use Rattle.grpc_stream.specs.CallTrace.{CallTrace, PeerEvent, Asked}
 use Rattle.grpc_stream.specs.NextEvent.{AreHidden, asked_of, shown_events_of}
 use Rattle.kept_calls.specs.declared.call.Ending.{Ending}
-use Rattle.kept_calls.specs.declared.call.Receiving.{Receiving}
 use Rattle.kept_calls.specs.declared.call.Receiving.TheVariants as was
 use Rattle.kept_calls.specs.CallState.{CallState, began, call_on, closed_by, ended, is_sent, refused_by}
 use Rattle.call_hearing.specs.declared.pending.Pending.{Pending}
 use Rattle.call_hearing.specs.declared.pending.Pending.TheVariants.{Nothing, Cut}
 use Rattle.call_hearing.specs.Laws.{ComesIn, tells}
-use Rattle.call_hearing.specs.Listening.{Hears, cut_tells, heads_on, is_asking, is_on, still_told, told_by}
+use Rattle.call_hearing.specs.Listening.{Hears, cut_tells, heads_on, is_asking, still_told, told_by}
 use Rattle.call_hearing.proofs.Beginning.{heads_begin_calls}
 use Rattle.call_hearing.proofs.Cutting.{cuts_go_on}
 use Rattle.call_hearing.proofs.Lasting.{open_calls_last}
 use Rattle.call_hearing.proofs.Telling.{open_calls_ask}
 use Rattle.call_sending.specs.Spelling.{Sends}
 use Rattle.call_sending.proofs.Kept.{IsUntouched, sends_kept}
-use Rattle.call_standing.specs.Standing.{Holds, Stands, StandsOn, State, is_once}
+use Rattle.call_standing.specs.Standing.{Holds, StandsOn, State, is_once}
 use Rattle.call_standing.proofs.Found.{IsChanged}
 use Rattle.call_telling.proofs.Begins.{added_here, added_other, begun_by_now, none_kept, once_more, sends_begun, unheard_yet}
-use Rattle.call_telling.proofs.Cuts.{cut_is, heard, told_more, turned_holds}
-use Rattle.call_telling.proofs.Finished.{IsReady, declined_elsewhere, declined_sends, declined_taken, refused_stream, sends_finished, stands_refused, taken_by, with_taken}
+use Rattle.call_telling.proofs.Cuts.{cut_is, heard, turned_holds}
+use Rattle.call_telling.specs.Giving.{told_more, took_in}
+use Rattle.call_telling.proofs.Finished.{IsReady, declined_elsewhere, declined_taken, refused_stream, sends_finished, stands_refused, taken_by, with_taken}
 use Rattle.call_telling.proofs.Listened.{open_hears}
-use Rattle.call_telling.proofs.TakesIn.{takes_in, took_in, with_peer}
+use Rattle.call_telling.proofs.TakesIn.{takes_in, with_peer}
 
 -- ---- a refusal of a call that had begun is shown as its drop
 

@@ -1,6 +1,6 @@
 -- What the connection says that is no event of a stream: GOAWAY, that it needs more, and why it gives no more.
-use Rattle.std.proofs.Common.{◌≡◌, ◌⊎◌, ℕ, ◌==◌, ◌≤◌, Bool, true, false, ◌&&◌, ◌||◌, List, [], ◌∷◌, ◌++◌, length, take, map, filter, cond, Option, Some, None, refl, sym, ap, subst, ◌∙◌, inl, inr, append_assoc, arith}
-use Rattle.std.specs.Prelude.{not, is_some, if◌then◌else◌}
+use Rattle.std.proofs.Common.{◌≡◌, ℕ, ◌==◌, Bool, true, false, ◌&&◌, List, [], ◌∷◌, ◌++◌, length, take, map, filter, cond, Option, Some, None, refl, sym, ap, subst, ◌∙◌, inl, inr, arith}
+use Rattle.std.specs.Prelude.{not, if◌then◌else◌}
 use Rattle.std.specs.List.{list_any}
 use Rattle.std.specs.Int.{w32, to_be_bytes}
 use Rattle.std.proofs.lemmas.Bool.{eqb-true}
@@ -12,14 +12,14 @@ use Rattle.h2_exchange.specs.declared.role.Role.TheVariants.{Client, Server}
 use Rattle.h2_exchange.specs.Content.{Outcome}
 use Rattle.h2_exchange.specs.Events.{Event}
 use Rattle.h2_exchange.specs.Events as event
-use Rattle.h2_exchange.specs.Exchange.{Step, Sent}
+use Rattle.h2_exchange.specs.Exchange.{Sent}
 use Rattle.h2_exchange.specs.Sending.{last_begun}
 use Rattle.h2_exchange.specs.Stops.{Stop, before_stop}
 use Rattle.h2_exchange.specs.Streams.{is_begun, is_live, is_over}
 use Rattle.h2_exchange.proofs.Places.{clash, neither, not_true, or_parts}
 use Rattle.http_connection.specs.Answers as conn
 use Rattle.http_connection.specs.Answers.{after}
-use Rattle.http_connection.specs.ConnectionTrace.{ConnectionTrace, IsSound, NoMemory, Refusal, Stopped, events_in, is_alive}
+use Rattle.http_connection.specs.ConnectionTrace.{ConnectionTrace, IsSound, NoMemory, Stopped, events_in, is_alive}
 use Rattle.grpc_stream.proofs.Granted.{body, one_frame}
 use Rattle.grpc_stream.specs.CallTrace.{CallTrace, PeerEvent, reported_by, reported_in}
 use Rattle.grpc_stream.specs.NextEvent as next
@@ -27,12 +27,11 @@ use Rattle.grpc_stream.specs.NextEvent.{GoesOn, NeedsMore, RunsOutOfMemory, Stop
 use Rattle.kept_calls.specs.CallState.{CallState, call_on}
 use Rattle.call_hearing.specs.declared.pending.Pending.{Pending}
 use Rattle.call_hearing.specs.declared.pending.Pending.TheVariants.{Nothing}
-use Rattle.call_hearing.specs.Listening.{has_event, still_told, told_by}
+use Rattle.call_hearing.specs.Listening.{still_told, told_by}
 use Rattle.call_hearing.proofs.Telling.{others_tell_nothing}
 use Rattle.call_sending.specs.Spelling.{Speaks}
-use Rattle.call_standing.specs.Standing.{Hides, Holds, IsGoing, IsHiding, IsRefused, IsRest, StandsOn, State, bare, is_once}
+use Rattle.call_standing.specs.Standing.{Holds, IsGoing, IsHiding, IsRefused, IsRest, StandsOn, State, bare, is_once}
 use Rattle.call_standing.proofs.Pushed.{control_holds}
-use Rattle.call_standing.proofs.Quiet.{gave}
 use Rattle.call_standing.proofs.Rest.{rest_of}
 use Rattle.call_standing.proofs.Sent.{events_kept, is_control}
 use Rattle.call_telling.specs.Giving.{HasGiven, untaken}
@@ -143,6 +142,10 @@ forgets s t given quiet h = record {
           speaks = subst (λ (k : ℕ). Speaks t k c.unsent) stood.0 stood.2.sends.speaks;
           silent = ([], sym given ∙ sym (append-nil t.connection_trace.given), refl);
         }))
+
+-- the calls gave up for want of memory, where their connection stood so
+abbrev pub died : CallTrace → ConnectionTrace → CallTrace
+died t d = record t { connection_trace = record d { refusal = Some NoMemory } }
 
 module _ {C : Type 0} (stands : C → ConnectionTrace → Type 0) (output : C → List ℕ) (law : (conn : C) (c : ConnectionTrace) → stands conn c → IsSound c (output conn)) where
   -- ---- GOAWAY
@@ -271,9 +274,6 @@ module _ {C : Type 0} (stands : C → ConnectionTrace → Type 0) (output : C �
       }
 
   -- ---- the calls had no memory
-
-  abbrev pub died : CallTrace → ConnectionTrace → CallTrace
-  died t d = record t { connection_trace = record d { refusal = Some NoMemory } }
 
   module _ (conn : C) (t : CallTrace) (d : ConnectionTrace) (connected : stands conn d) (was : t.connection_trace.refusal ≡ None) (alive : d.refusal ≡ None) (goes_on : GoesOn t.connection_trace d) where
     pub dies_so : RunsOutOfMemory t (died t d)

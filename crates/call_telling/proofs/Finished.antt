@@ -1,5 +1,5 @@
 -- The end that refuses a call is taken for it, whether its stream is open or not.
-use Rattle.std.proofs.Common.{◌≡◌, ℕ, ◌+◌, ◌≤◌, ◌==◌, Bool, true, false, ◌||◌, List, [], ◌∷◌, ◌++◌, length, map, sum_by, Option, Some, None, refl, sym, ap, subst, ◌∙◌, arith}
+use Rattle.std.proofs.Common.{◌≡◌, ℕ, ◌≤◌, ◌==◌, Bool, true, false, List, [], ◌∷◌, ◌++◌, length, sum_by, Some, refl, sym, ap, subst, ◌∙◌, arith}
 use Rattle.std.specs.Prelude.{if◌then◌else◌}
 use Rattle.std.specs.List.{All, flat_map, list_any}
 use Rattle.std.proofs.lemmas.List.{append-nil}
@@ -16,7 +16,7 @@ use Rattle.h2_exchange.specs.Calls.{Declined}
 use Rattle.h2_exchange.specs.StreamParts.{Finish, IsMessageFirst, Item, Message}
 use Rattle.h2_exchange.specs.Streams.{is_begun}
 use Rattle.h2_exchange.proofs.Places.{clash, second_true}
-use Rattle.grpc_stream.specs.CallTrace.{CallTrace, PeerEvent, Asked, is_end, is_ended, queued_on, suits, text_of, took}
+use Rattle.grpc_stream.specs.CallTrace.{CallTrace, Asked, is_end, is_ended, queued_on, suits, text_of, took}
 use Rattle.grpc_stream.specs.NextEvent.{answer_to}
 use Rattle.kept_calls.specs.declared.call.Ending.{Ending}
 use Rattle.kept_calls.specs.declared.call.Receiving.TheVariants as was

@@ -1,37 +1,33 @@
 -- What an event that the connection gave comes to, as a step of the calls.
-use Rattle.std.proofs.Common.{◌≡◌, ◌⊎◌, ℕ, ◌==◌, ◌-◌, ◌^◌, ◌≤◌, Bool, true, false, List, [], ◌∷◌, ◌++◌, length, take, map, Option, Some, None, refl, sym, ap, subst, ◌∙◌, inl, inr, append_assoc, arith}
+use Rattle.std.proofs.Common.{◌≡◌, ℕ, ◌==◌, false, List, [], ◌∷◌, ◌++◌, None, refl, sym, ap, subst, ◌∙◌, append_assoc}
 use Rattle.std.proofs.lemmas.Bool.{eqb-true}
-use Rattle.std.proofs.lemmas.List.{append-nil, take_all}
+use Rattle.std.proofs.lemmas.List.{append-nil}
 use Rattle.grpc_heads.specs.CallEnd.{CallEnd}
 use Rattle.h2_exchange.specs.declared.role.Role.{Role}
 use Rattle.h2_exchange.specs.declared.role.Role.TheVariants.{Client, Server}
-use Rattle.h2_exchange.specs.Events.{Event, Data, GoneAway}
+use Rattle.h2_exchange.specs.Events.{Event}
 use Rattle.h2_exchange.specs.Sending.{IsPrefix}
 use Rattle.h2_exchange.specs.StreamParts.{Item}
 use Rattle.h2_exchange.proofs.Places.{same_self}
 use Rattle.http_connection.specs.Answers as conn
-use Rattle.http_connection.specs.ConnectionTrace.{ConnectionTrace, IsSound, NoMemory, events_in}
+use Rattle.http_connection.specs.ConnectionTrace.{ConnectionTrace, IsSound, events_in}
 use Rattle.grpc_stream.specs.declared.event.CallEvent.{CallEvent}
 use Rattle.grpc_stream.specs.CallTrace.{CallTrace, CarriesCallOn, PeerEvent, reported_by}
 use Rattle.grpc_stream.specs.NextEvent as next
 use Rattle.grpc_stream.specs.NextEvent.{AppendsPeerEvents, GivesCallEvent, IsShownAs, RunsOutOfMemory, answer_to, shown_events_of}
-use Rattle.kept_calls.specs.CallState.{CallState, call_on, with_piece}
-use Rattle.kept_calls.specs.declared.call.Receiving.TheVariants as was
+use Rattle.kept_calls.specs.CallState.{call_on}
 use Rattle.call_hearing.specs.declared.pending.Pending.{Pending}
-use Rattle.call_hearing.specs.declared.pending.Pending.TheVariants.{Nothing, Cut}
+use Rattle.call_hearing.specs.declared.pending.Pending.TheVariants.{Nothing}
 use Rattle.call_hearing.specs.Laws.{ComesIn}
 use Rattle.call_hearing.specs.Listening.{is_on}
-use Rattle.call_hearing.proofs.Telling.{others_tell_nothing}
-use Rattle.call_standing.specs.Standing.{Holds, Hides, IsGoing, IsHiding, IsRest, StandsOn, State, bare, carried}
+use Rattle.call_standing.specs.Standing.{Holds, IsGoing, IsRest, StandsOn, State, bare}
 use Rattle.call_standing.specs.Steps.{GoesQuietly}
-use Rattle.call_standing.proofs.Found.{IsChanged}
 use Rattle.call_standing.proofs.Quiet.{gave}
 use Rattle.call_standing.proofs.Rest.{rest_of}
 use Rattle.call_standing.proofs.Told.{appends_one}
-use Rattle.call_telling.specs.Giving.{HasGiven, listens, untaken}
-use Rattle.call_telling.proofs.Listened.{fed_holds}
+use Rattle.call_telling.specs.Giving.{HasGiven, listens, took_in, untaken}
 use Rattle.call_telling.proofs.Receives.{receives_hold}
-use Rattle.call_telling.proofs.TakesIn.{takes_in, took_in}
+use Rattle.call_telling.proofs.TakesIn.{takes_in}
 use Rattle.call_telling.proofs.Unheard.{IsLater, unheard}
 
 -- the rest of what holds does not speak of the events that were given

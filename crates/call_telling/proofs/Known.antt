@@ -1,22 +1,21 @@
 -- What holds of calls goes on where more header blocks are known, and where a frame is received.
-use Rattle.std.proofs.Common.{◌≡◌, ◌⊎◌, ℕ, Bool, true, false, ◌||◌, List, [], ◌∷◌, ◌++◌, Option, Some, None, refl, sym, ap, subst, ◌∙◌, inl, inr, append_assoc}
-use Rattle.std.specs.List.{Contains, list_any}
+use Rattle.std.proofs.Common.{◌≡◌, ◌⊎◌, ℕ, List, [], ◌∷◌, ◌++◌, None, refl, sym, ap, subst, ◌∙◌, inl, inr, append_assoc}
+use Rattle.std.specs.List.{Contains}
 use Rattle.std.specs.Option.{option_or}
 use Rattle.std.proofs.lemmas.List.{append-nil}
 use Rattle.std.proofs.lemmas.List.Folds.{list_any-append}
 use Rattle.h2_frames.specs.declared.frame.Frame.{Frame}
 use Rattle.h2_frames.specs.declared.frame.Frame.TheVariants.{Content}
-use Rattle.h2_frames.specs.declared.frame.FrameBody.{FrameBody}
 use Rattle.h2_exchange.specs.declared.limits.H2Limits.{H2Limits}
 use Rattle.h2_exchange.specs.declared.role.Role.{Role}
 use Rattle.h2_exchange.specs.declared.role.Role.TheVariants.{Client}
 use Rattle.h2_exchange.specs.Content.{Outcome}
 use Rattle.h2_exchange.specs.Events.{Event}
-use Rattle.h2_exchange.specs.Exchange.{Step, Received, Sent, first_given}
-use Rattle.h2_exchange.specs.Frames.{has_padding, is_rst_stream, stream_of}
+use Rattle.h2_exchange.specs.Exchange.{Step, Received, Sent}
+use Rattle.h2_exchange.specs.Frames.{stream_of}
 use Rattle.h2_exchange.specs.Outcomes.{AreEnough}
 use Rattle.h2_exchange.specs.Outgoing.{IsErrorReset}
-use Rattle.h2_exchange.specs.Stops.{Stop, stop_at, stop_of}
+use Rattle.h2_exchange.specs.Stops.{stop_at, stop_of}
 use Rattle.h2_exchange.specs.Streams.{begins, begun, is_begun}
 use Rattle.h2_exchange.proofs.Heads.{enough_front, error_same, later_blocks_change_nothing, or_left, or_right, passed_front, passed_step}
 use Rattle.h2_exchange.proofs.Looking.{given_more, or_nothing}

@@ -12,3 +12,6 @@ pub mod Begins
 pub mod Cuts
 pub mod Finished
 pub mod Declines
+pub mod Arms
+pub mod CutArms
+pub mod OneCall

@@ -1,11 +1,11 @@
 -- An event of a call of which more is heard.
-use Rattle.std.proofs.Common.{◌≡◌, ◌⊎◌, ℕ, ◌==◌, Bool, true, false, ◌&&◌, ◌||◌, List, [], ◌∷◌, ◌++◌, map, Option, Some, None, refl, sym, ap, subst, ◌∙◌, inl, inr, append_assoc}
+use Rattle.std.proofs.Common.{◌≡◌, ℕ, ◌==◌, Bool, true, false, ◌||◌, List, [], ◌∷◌, ◌++◌, map, Some, None, refl, sym, ap, subst, ◌∙◌}
 use Rattle.std.specs.Prelude.{if◌then◌else◌, is_some}
 use Rattle.std.specs.List.{list_any}
 use Rattle.std.proofs.lemmas.Bool.{eqb-true}
 use Rattle.grpc_framing.specs.CutterState.{CutterState}
 use Rattle.grpc_framing.specs.NextMessage.{fed}
-use Rattle.grpc_heads.specs.CallEnd.{CallEnd, compressed, method_by, status_by, too_long, truncated, unknown}
+use Rattle.grpc_heads.specs.CallEnd.{compressed, method_by, status_by, too_long, truncated, unknown}
 use Rattle.grpc_heads.specs.GrpcStatus.{GrpcStatus}
 use Rattle.grpc_heads.specs.Heads.{head_of}
 use Rattle.grpc_heads.specs.Trailers.{status_in_trailers}
@@ -33,7 +33,8 @@ use Rattle.call_hearing.proofs.Telling.{open_calls_answer, open_calls_ask, other
 use Rattle.call_sending.proofs.Kept.{sends_kept}
 use Rattle.call_standing.specs.Standing.{Holds, Stands, StandsOn, State, is_once}
 use Rattle.call_standing.proofs.Found.{IsChanged}
-use Rattle.call_telling.proofs.TakesIn.{IsBesides, sends_as, takes_in, told_still, took_in, untouched, with_peer}
+use Rattle.call_telling.proofs.TakesIn.{sends_as, takes_in, told_still, untouched, with_peer}
+use Rattle.call_telling.specs.Giving.{took_in}
 
 -- no call is changed
 pub unchanged : (cs : List CallState) (id : ℕ) (c : CallState) → call_on id cs ≡ Some c → c.stream ≡ id → IsChanged id c c cs cs

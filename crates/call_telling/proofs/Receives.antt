@@ -1,27 +1,27 @@
 -- The frames that a connection received and answered before it gave an event keep what holds of calls.
 use Rattle.std.proofs.Common.{◌≡◌, ◌⊎◌, ℕ, ◌<◌, ◌^◌, ◌==◌, Bool, true, false, ◌&&◌, ◌||◌, List, [], ◌∷◌, ◌++◌, map, Option, Some, None, refl, sym, ap, subst, ◌∙◌, inl, inr, append_assoc, arith}
-use Rattle.std.specs.Prelude.{not, if◌then◌else◌}
-use Rattle.std.specs.List.{flat_map, list_any}
+use Rattle.std.specs.Prelude.{if◌then◌else◌}
+use Rattle.std.specs.List.{flat_map}
 use Rattle.std.specs.Int.{w32, to_be_bytes}
 use Rattle.std.proofs.lemmas.List.{append-nil}
 use Rattle.h2_frames.specs.declared.code.ErrorCode.{ErrorCode}
 use Rattle.h2_frames.specs.declared.frame.Frame.{Frame}
-use Rattle.h2_frames.specs.declared.frame.Frame.TheVariants.{Content, Headers, Priority, RstStream, Settings, PushPromise, Ping, GoAway, WindowUpdate, Continuation, Unknown}
+use Rattle.h2_frames.specs.declared.frame.Frame.TheVariants.{RstStream, Settings, Ping}
 use Rattle.h2_frames.specs.declared.frame.FrameBody.{FrameBody}
 use Rattle.h2_frames.specs.Layout.{body_of, frame_text}
 use Rattle.hpack_tables.specs.declared.field.Field.{Field}
 use Rattle.h2_exchange.specs.declared.role.Role.{Role}
 use Rattle.h2_exchange.specs.Blocks.{open_block}
-use Rattle.h2_exchange.specs.Content.{Outcome, stream_error}
+use Rattle.h2_exchange.specs.Content.{stream_error}
 use Rattle.h2_exchange.specs.Events.{Event}
-use Rattle.h2_exchange.specs.Exchange.{Step, Received, Sent, collect, received, sent}
+use Rattle.h2_exchange.specs.Exchange.{Step, Received, Sent, collect, sent}
 use Rattle.h2_exchange.specs.Frames.{code_of, counted, has_ack, is_data, is_rst_stream, stream_of, has_end_stream}
 use Rattle.h2_exchange.specs.Blocks.{completed, data_of}
 use Rattle.h2_exchange.specs.Outcomes.{AreEnough}
 use Rattle.h2_exchange.specs.Sending.{ack_for, credit_text, reset_text, update_text}
-use Rattle.h2_exchange.specs.StreamParts.{Part, Piece, Stopped, block_part, part_of, parts}
+use Rattle.h2_exchange.specs.StreamParts.{Part, Piece, Stopped, block_part, part_of}
 use Rattle.h2_exchange.specs.Stops.{stop_of}
-use Rattle.h2_exchange.specs.Streams.{begins, has_rst_stream, is_begun, is_ended_by, is_live, is_live_at, is_over, is_reset}
+use Rattle.h2_exchange.specs.Streams.{begins, has_rst_stream, is_begun, is_live, is_live_at, is_over, is_reset}
 use Rattle.h2_exchange.proofs.Answered.{error_live}
 use Rattle.h2_exchange.proofs.Places.{and_parts, first_true, neither, not_true, one_of, or_parts, second_true}
 use Rattle.h2_exchange.proofs.Steps.{begins_once, begun_push, sent_push, sent_received}
@@ -37,7 +37,7 @@ use Rattle.call_standing.proofs.Sent.{control_is_plain, is_control, reset_is_pla
 use Rattle.call_telling.specs.Giving.{untaken}
 use Rattle.call_telling.proofs.Answered.{error_reset_holds}
 use Rattle.call_telling.proofs.Beside.{beside_holds}
-use Rattle.call_telling.proofs.Known.{clear_parts, frames_now, heads_beside, received_beside}
+use Rattle.call_telling.proofs.Known.{clear_parts, heads_beside, received_beside}
 
 -- ---- acknowledgements and credit are no part of a call
 

@@ -1,33 +1,30 @@
 -- An event of a stream of which no more is heard tells nothing, and changes nothing.
-use Rattle.std.proofs.Common.{◌≡◌, ◌⊎◌, ℕ, ◌==◌, Bool, true, false, ◌&&◌, ◌||◌, List, [], ◌∷◌, ◌++◌, map, Option, Some, None, refl, sym, ap, subst, ◌∙◌, inl, inr, append_assoc}
-use Rattle.std.specs.Prelude.{not}
+use Rattle.std.proofs.Common.{◌≡◌, ◌⊎◌, ℕ, Bool, true, false, ◌&&◌, List, [], ◌∷◌, ◌++◌, Option, Some, None, refl, sym, ap, subst, ◌∙◌, inl, inr}
 use Rattle.std.specs.List.{list_any}
 use Rattle.std.proofs.lemmas.List.{append-nil}
 use Rattle.std.proofs.lemmas.List.Folds.{list_any-append}
 use Rattle.h2_exchange.specs.declared.role.Role.{Role}
 use Rattle.h2_exchange.specs.declared.role.Role.TheVariants.{Client, Server}
 use Rattle.h2_exchange.specs.Calls.{is_ended_on}
-use Rattle.h2_exchange.specs.Events.{Event, Head, GoneAway, bytes_of, bytes_on}
+use Rattle.h2_exchange.specs.Events.{Event, bytes_of}
 use Rattle.h2_exchange.specs.Stops.{events}
-use Rattle.h2_exchange.specs.Streams.{is_begun}
 use Rattle.h2_exchange.proofs.Places.{any_push, clash, first_true, second_true}
 use Rattle.http_connection.specs.ConnectionTrace.{events_in}
 use Rattle.grpc_stream.specs.CallTrace.{CallTrace, PeerEvent, begins_on}
 use Rattle.kept_calls.specs.declared.call.Receiving.{Receiving}
 use Rattle.kept_calls.specs.declared.call.Receiving.TheVariants as was
-use Rattle.kept_calls.specs.CallState.{CallState, call_on}
-use Rattle.call_hearing.specs.declared.pending.Pending.{Pending}
+use Rattle.kept_calls.specs.CallState.{CallState}
 use Rattle.call_hearing.specs.declared.pending.Pending.TheVariants.{Nothing}
 use Rattle.call_hearing.specs.Laws.{ComesIn, tells}
 use Rattle.call_hearing.specs.Listening.{Hears, awaits_answers, brings_on, has_event, has_method, heads_on, is_asking, is_on}
-use Rattle.call_hearing.proofs.Lasting.{closed_calls_last, heads_first, no_more_bytes, open_answers_last, still_none}
+use Rattle.call_hearing.proofs.Lasting.{closed_calls_last, heads_first, no_more_bytes, still_none}
 use Rattle.call_hearing.proofs.Places.{servers_hear}
 use Rattle.call_hearing.proofs.Silent.{others_are_silent}
 use Rattle.call_hearing.proofs.Telling.{others_tell_nothing}
 use Rattle.call_sending.proofs.Kept.{IsUntouched, sends_kept, speaks_same}
-use Rattle.call_standing.specs.Standing.{Holds, IsGone, IsSilent, IsUnkept, Stands, StandsOn, State}
-use Rattle.call_telling.specs.Giving.{is_listening, listens}
-use Rattle.call_telling.proofs.TakesIn.{gone_silent, told_still, took_in, untouched}
+use Rattle.call_standing.specs.Standing.{IsGone, IsUnkept, Stands, StandsOn}
+use Rattle.call_telling.specs.Giving.{is_listening, listens, took_in}
+use Rattle.call_telling.proofs.TakesIn.{gone_silent, told_still, untouched}
 
 -- DATA or an end of a server's stream, or what brings none of both
 abbrev pub IsLater : ℕ → Event → Type 0
