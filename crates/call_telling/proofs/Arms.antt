@@ -1,5 +1,5 @@
 -- What each event comes to, for the calls as they are kept in a list.
-use Rattle.std.proofs.Common.{◌≡◌, ℕ, ◌==◌, Bool, true, false, List, [], ◌∷◌, ◌++◌, length, append_assoc, slice_index_or, slice_set, Option, Some, None, Ok, refl, sym, ap, subst, ◌∙◌, inr}
+use Rattle.std.proofs.Common.{◌≡◌, ℕ, ◌==◌, Bool, true, false, List, [], ◌∷◌, ◌++◌, length, append_assoc, slice_index_or, slice_set, Option, Some, None, Ok, refl, sym, ap, subst, ◌∙◌, inr, filter, cond, ◌⊎◌, inl}
 use Rattle.std.specs.Prelude.{if◌then◌else◌}
 use Rattle.std.specs.List.{position}
 use Rattle.grpc_heads.specs.CallEnd.{method_by, status_by, unknown}
@@ -12,9 +12,12 @@ use Rattle.hpack_tables.specs.declared.field.Field.{Field}
 use Rattle.h2_exchange.specs.declared.role.Role.{Role}
 use Rattle.h2_exchange.specs.declared.role.Role.TheVariants.{Client, Server}
 use Rattle.h2_exchange.specs.Calls.{Begun, Closed, Dropped, Finished}
-use Rattle.h2_exchange.specs.Events.{Event, Data, Ended, Head, Reset}
+use Rattle.h2_exchange.specs.Events.{Event, Data, Ended, GoneAway, Head, Reset}
+use Rattle.h2_exchange.specs.Stops.{Stop}
+use Rattle.h2_exchange.specs.Streams.{is_live}
+use Rattle.http_connection.specs.Answers as answers
 use Rattle.h2_exchange.specs.Sending.{IsPrefix}
-use Rattle.http_connection.specs.ConnectionTrace.{ConnectionTrace, IsSound, NoMemory}
+use Rattle.http_connection.specs.ConnectionTrace.{ConnectionTrace, IsSound, NoMemory, Refusal, Stopped, events_in}
 use Rattle.grpc_stream.specs.declared.event.CallEvent.{CallEvent}
 use Rattle.grpc_stream.specs.declared.event.CallEvent.TheVariants as says
 use Rattle.grpc_stream.specs.CallTrace as trace
@@ -30,7 +33,7 @@ use Rattle.call_hearing.specs.declared.pending.Pending.TheVariants.{Nothing, Cut
 use Rattle.call_hearing.specs.Listening.{is_on}
 use Rattle.call_standing.specs.declared.fate.Fate.{Fate}
 use Rattle.call_standing.specs.declared.fate.Fate.TheVariants.{Going, Dead}
-use Rattle.call_standing.specs.Standing.{Holds, IsGoing, IsHiding, StandsFor, State, bare}
+use Rattle.call_standing.specs.Standing.{Holds, IsGoing, IsHiding, IsRefused, StandsFor, StandsOn, State, bare}
 use Rattle.call_standing.specs.Steps.{GoesQuietly, Steps}
 use Rattle.call_standing.proofs.Found.{IsChanged, changed, found}
 use Rattle.call_standing.proofs.Quiet.{gave}
@@ -38,9 +41,9 @@ use Rattle.call_standing.proofs.Rest.{rest_of}
 use Rattle.call_standing.proofs.Told.{stands_of}
 use Rattle.call_telling.specs.Giving.{HasGiven, is_listening, listens, took_in, untaken}
 use Rattle.call_telling.proofs.Begins.{begins_holds}
-use Rattle.call_telling.proofs.Ends.{dead_going, died, dies_so}
-use Rattle.call_telling.proofs.Given.{comes_in, further, going_quietly, going_so, rest_at, split_is, tells_so, unheard_step}
-use Rattle.call_telling.proofs.Listened.{dropped_holds, end_holds, fed_holds, finished_holds, reset_holds, trailers_hold}
+use Rattle.call_telling.proofs.Ends.{dead_going, died, dies_so, forgets, goaway_step, refused_going, runs_out_so, spent_going, stops_so}
+use Rattle.call_telling.proofs.Given.{client_unheard_step, comes_in, further, going_quietly, going_so, quietly, rest_at, split_is, tells_so, unheard_step}
+use Rattle.call_telling.proofs.Listened.{dropped_holds, end_holds, fed_holds, finished_holds, reset_holds, response_holds, trailers_hold}
 use Rattle.call_telling.proofs.Unheard.{IsLater}
 
 -- the call that is found is listened to
@@ -51,6 +54,10 @@ open_of was.Closed e = absurd cc
 pub found_open : (items : List Call) (id at : ℕ) (call : Call) → position (λ (c : Call). c.stream == id) items ≡ Some at → call ≡ slice_index_or items at call → listens (call_on id (states items)) ≡ true →
     call.receiving ≡ was.Open
 found_open items id at call p is heard = open_of call.receiving (ap listens (sym (found items id at call p is).0) ∙ heard)
+
+pub heard_of : (o : Option CallState) → listens o ≡ true → (c : CallState) × (o ≡ Some c) × (c.receiving ≡ was.Open)
+heard_of None f = absurd cc
+heard_of (Some c) f = (c, refl, open_of c.receiving f)
 
 abbrev pub state_at : Role → Pending → List CallState → State
 state_at role pending cs = record { role = role; calls = cs; pending = pending }
@@ -68,6 +75,12 @@ module _ {C : Type 0} (stands : C → ConnectionTrace → Type 0) (output : C �
 
     pub unheard_arm : (e : Event) (id : ℕ) → ((n : ℕ) → is_on n e ≡ (id == n)) → IsLater id e → listens (call_on id s.calls) ≡ false → HasGiven stands conn s t e → Comes fate s t None
     unheard_arm e id on_is k f g = as_fate fate going s t (unheard_step stands output law conn s t e g quiet id on_is k f)
+
+    pub client_unheard_arm : (e : Event) (id : ℕ) → ((n : ℕ) → is_on n e ≡ (id == n)) → s.role ≡ Client → listens (call_on id s.calls) ≡ false → HasGiven stands conn s t e → Comes fate s t None
+    client_unheard_arm e id on_is client f g = as_fate fate going s t (client_unheard_step stands output law conn s t e g quiet id on_is client f)
+
+    pub goaway_arm : (last : ℕ) (why : ErrorCode) → HasGiven stands conn s t (GoneAway last why) → Comes fate s t None
+    goaway_arm last why g = as_fate fate going s t (goaway_step stands output law conn s t last why g quiet)
 
     fed_base : (bytes : List ℕ) (c : CallState) (cs : List CallState) → IsChanged c.stream c (with_piece bytes c) s.calls cs → c.receiving ≡ was.Open → HasGiven stands conn s t (Data c.stream bytes) → Comes fate (state_at s.role (Cut c.stream) cs) t None
     fed_base bytes c cs is opened g =
@@ -121,6 +134,33 @@ module _ {C : Type 0} (stands : C → ConnectionTrace → Type 0) (output : C �
         Comes fate s t (Some (says.Dropped id))
     dropped_arm why c id on here opened server g =
         subst (λ (k : ℕ). call_on k s.calls ≡ Some c → HasGiven stands conn s t (Reset k why) → Comes fate s t (Some (says.Dropped k))) on (λ i h. dropped_base why c i opened server h) here g
+
+    -- the call that is heard on a stream
+    stands_there : (e : Event) (id : ℕ) (c : CallState) → HasGiven stands conn s t e → call_on id s.calls ≡ Some c → c.stream ≡ id
+    stands_there e id c g here = (subst (StandsOn (bare (untaken t g.at)) s.pending id) here (g.holds.each id)).0
+
+    pub dropped_listened : (why : ErrorCode) (id : ℕ) → listens (call_on id s.calls) ≡ true → s.role ≡ Server → HasGiven stands conn s t (Reset id why) → Comes fate s t (Some (says.Dropped id))
+    dropped_listened why id heard server g =
+        let h = heard_of (call_on id s.calls) heard in
+        dropped_arm why h.0 id (stands_there (Reset id why) id h.0 g h.1) h.1 h.2 server g
+
+    -- the head of a response
+    response_base : (fields : List Field) (c : CallState) → call_on c.stream s.calls ≡ Some c → c.receiving ≡ was.Open → s.role ≡ Client → HasGiven stands conn s t (Head c.stream fields false) → Comes fate s t None
+    response_base fields c here opened client g =
+        as_fate fate going s t
+        (quietly stands output law conn s t (Head c.stream fields false) g quiet
+        (response_holds (bare (untaken t g.at)) s s.calls c quiet opened (further stands output law conn s t (Head c.stream fields false) g) g.holds (g.holds.role_is ∙ client) fields
+        (split_is stands output law conn s t (Head c.stream fields false) g) here))
+
+    response_by : (b : Bool) (fields : List Field) (id : ℕ) → listens (call_on id s.calls) ≡ b → s.role ≡ Client → HasGiven stands conn s t (Head id fields false) → Comes fate s t None
+    response_by false fields id heard client g = client_unheard_arm (Head id fields false) id (λ n. refl) client heard g
+    response_by true fields id heard client g =
+        let h = heard_of (call_on id s.calls) heard in
+        subst (λ (k : ℕ). call_on k s.calls ≡ Some h.0 → HasGiven stands conn s t (Head k fields false) → Comes fate s t None) (stands_there (Head id fields false) id h.0 g h.1)
+        (λ i k. response_base fields h.0 i h.2 client k) h.1 g
+
+    pub response_arm : (fields : List Field) (id : ℕ) → s.role ≡ Client → HasGiven stands conn s t (Head id fields false) → Comes fate s t None
+    response_arm fields id client g = response_by (listens (call_on id s.calls)) fields id refl client g
 
     -- a head that begins a call
     pub begun_arm : (id : ℕ) (fields : List Field) (last : Bool) (method : Method) → method_by (head_of fields) ≡ Ok method → s.role ≡ Server → HasGiven stands conn s t (Head id fields last) →
@@ -202,6 +242,70 @@ module _ {C : Type 0} (stands : C → ConnectionTrace → Type 0) (output : C �
         (dead_going stands output law conn t t.connection_trace g.connected g.alive g.alive (next.stays t.connection_trace) (length (output conn)) refl g.rest, refl),
     inr (dies_so stands output law conn t t.connection_trace g.connected g.alive g.alive (next.stays t.connection_trace)),
   )
+
+-- the calls gave up, with this answer
+module _ {C : Type 0} (stands : C → ConnectionTrace → Type 0) (output : C → List ℕ) (law : (conn : C) (c : ConnectionTrace) → stands conn c → IsSound c (output conn)) (conn after : C) (same : after ≡ conn)
+    (fate : Fate) (dead : fate ≡ Dead (length (output conn))) (event : CallEvent) (is : event ≡ says.NoMemory) (s now : State) (t : CallTrace) where
+  so_said : Comes stands output law conn fate now t (Some says.NoMemory) → Comes stands output law after fate now t (Some event)
+  so_said h =
+      subst (λ (c : C). Comes stands output law c fate now t (Some event)) (sym same) (subst (λ (x : CallEvent). Comes stands output law conn fate now t (Some x)) (sym is) h)
+
+  pub gave_up_arm : (e : Event) → HasGiven stands conn s t e → Comes stands output law after fate now t (Some event)
+  gave_up_arm e g = so_said (died_arm stands output law conn fate dead s now t e g)
+
+  pub gave_up_going : IsGoing stands output conn s t → Comes stands output law after fate now t (Some event)
+  gave_up_going g = so_said (died_going stands output law conn fate dead s now t g)
+
+-- ---- what the connection says that is no event
+
+module _ {C : Type 0} (stands : C → ConnectionTrace → Type 0) (output : C → List ℕ) (law : (conn : C) (c : ConnectionTrace) → stands conn c → IsSound c (output conn)) (old new : C)
+    (s : State) (quiet : s.pending ≡ Nothing) (t : CallTrace) (h : IsGoing stands output old s t) where
+  not_repeated : (why : Refusal) → t.connection_trace.refusal ≡ Some why → ⊥
+  not_repeated why is = by t.connection_trace.refusal h.alive is
+    where
+      by : (o : Option Refusal) → o ≡ None → o ≡ Some why → ⊥
+      by None e f = cc
+      by (Some other) e f = cc
+
+  pub stopped_arm : (stop : Stop) → ((d : ConnectionTrace) × stands new d × (answers.RepeatsRefusal t.connection_trace (Stopped stop) d ⊎ answers.Stops t.connection_trace stop d)) →
+      (u : CallTrace) × IsRefused stands output new u × next.Stops t stop u
+  stopped_arm stop (d, connected, inl again) = absurd (not_repeated (Stopped stop) again.0)
+  stopped_arm stop (d, connected, inr stops) = (
+    record t { connection_trace = d },
+    refused_going stands output law old new s t d connected h stop stops,
+    stops_so stands output law old new s t d connected h stop stops quiet,
+  )
+
+  pub spent_arm : ((d : ConnectionTrace) × stands new d × (answers.RepeatsRefusal t.connection_trace NoMemory d ⊎ answers.RunsOutOfMemory t.connection_trace d)) →
+      (u : CallTrace) × IsRefused stands output new u × next.RunsOutOfMemory t u
+  spent_arm (d, connected, inl again) = absurd (not_repeated NoMemory again.0)
+  spent_arm (d, connected, inr out) = (
+    record t { connection_trace = d },
+    spent_going stands output law old new s t d connected h out,
+    runs_out_so stands output law old new s t d connected h out,
+  )
+
+  -- calls whose streams do not live are forgotten, where all events were given
+  pub forgotten_going : (conn : C) → stands conn t.connection_trace → t.connection_trace.given ≡ events_in t.connection_trace →
+      IsGoing stands output conn (record s { calls = filter (λ (c : CallState). is_live t.connection_trace.role t.connection_trace.frames c.stream) s.calls }) t
+  forgotten_going conn connected given =
+      let holds = forgets s (bare t) given quiet h.holds in
+      record {
+        connected = connected;
+        alive = h.alive;
+        holds = holds;
+        rest = rest_of (record s { calls = filter (λ (c : CallState). is_live t.connection_trace.role t.connection_trace.frames c.stream) s.calls }) (bare t) (law conn t.connection_trace connected).given holds;
+      }
+
+-- the calls as they are kept, of which those that pass are left
+pub states_left : (p : ℕ → Bool) (items : List Call) → states (filter (λ (c : Call). p c.stream) items) ≡ filter (λ (c : CallState). p c.stream) (states items)
+states_left p [] = refl
+states_left p (x ∷ xs) = by (p x.stream) (states_left p xs)
+  where
+    by : (b : Bool) → states (filter (λ (c : Call). p c.stream) xs) ≡ filter (λ (c : CallState). p c.stream) (states xs) →
+        states (cond b (x ∷ filter (λ (c : Call). p c.stream) xs) (filter (λ (c : Call). p c.stream) xs)) ≡ cond b (state_of x ∷ filter (λ (c : CallState). p c.stream) (states xs)) (filter (λ (c : CallState). p c.stream) (states xs))
+    by true e = ap (λ (cs : List CallState). state_of x ∷ cs) e
+    by false e = e
 
 -- ---- the call that stands on a stream
 

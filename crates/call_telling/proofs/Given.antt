@@ -28,7 +28,7 @@ use Rattle.call_standing.proofs.Told.{appends_one}
 use Rattle.call_telling.specs.Giving.{HasGiven, listens, took_in, untaken}
 use Rattle.call_telling.proofs.Receives.{receives_hold}
 use Rattle.call_telling.proofs.TakesIn.{takes_in}
-use Rattle.call_telling.proofs.Unheard.{IsLater, unheard}
+use Rattle.call_telling.proofs.Unheard.{IsLater, TellsNothing, client_unheard, unheard}
 
 -- the rest of what holds does not speak of the events that were given
 pub rest_at : (t : CallTrace) (es : List Event) → IsRest t → IsRest (record t { connection_trace = record t.connection_trace { given = es } })
@@ -125,14 +125,23 @@ module _ {C : Type 0} (stands : C → ConnectionTrace → Type 0) (output : C �
       pub quietly : Holds (record { role = s.role; calls = s.calls; pending = Nothing }) (took_in before e [] t.taken) → Quietly s
       quietly h = let both = going_quietly (record { role = s.role; calls = s.calls; pending = Nothing }) h in (silent_at, still_so both.0, both.1)
 
-      -- of a stream of which no more is heard
-      pub unheard_step : (id : ℕ) → ((n : ℕ) → is_on n e ≡ (id == n)) → IsLater id e → listens (call_on id s.calls) ≡ false → Quietly s
-      unheard_step id on_is k f =
-          let stood : StandsOn before Nothing id (call_on id s.calls) = subst (λ (p : Pending). StandsOn before p id (call_on id s.calls)) quiet (g.holds.each id) in
-          let r = unheard before e further split_is comes_in id (on_is id ∙ same_self id) k (call_on id s.calls) f stood in
+      silent_so : (id : ℕ) (on_is : (n : ℕ) → is_on n e ≡ (id == n)) → TellsNothing before e further split_is comes_in id (on_is id ∙ same_self id) (call_on id s.calls) → Quietly s
+      silent_so id on_is r =
           quietly
           (takes_in before e [] t.taken further split_is s s.calls Nothing quiet r.nothing (λ n off. record { same = refl; none_begins = refl; none_queued = refl })
           (λ n on st.
-          let same : id ≡ n = eqb-true id n (sym (on_is n) ∙ on) in
-          subst (λ (m : ℕ). StandsOn (took_in before e [] t.taken) Nothing m (call_on m s.calls)) same r.stands)
+              let same : id ≡ n = eqb-true id n (sym (on_is n) ∙ on) in
+              subst (λ (m : ℕ). StandsOn (took_in before e [] t.taken) Nothing m (call_on m s.calls)) same r.stands)
           g.holds.once g.holds)
+
+      stood_on : (id : ℕ) → StandsOn before Nothing id (call_on id s.calls)
+      stood_on id = subst (λ (p : Pending). StandsOn before p id (call_on id s.calls)) quiet (g.holds.each id)
+
+      -- of a stream of which no more is heard
+      pub unheard_step : (id : ℕ) → ((n : ℕ) → is_on n e ≡ (id == n)) → IsLater id e → listens (call_on id s.calls) ≡ false → Quietly s
+      unheard_step id on_is k f = silent_so id on_is (unheard before e further split_is comes_in id (on_is id ∙ same_self id) k (call_on id s.calls) f (stood_on id))
+
+      -- at a client, whatever comes on it
+      pub client_unheard_step : (id : ℕ) → ((n : ℕ) → is_on n e ≡ (id == n)) → s.role ≡ Client → listens (call_on id s.calls) ≡ false → Quietly s
+      client_unheard_step id on_is client f =
+          silent_so id on_is (client_unheard before e further split_is comes_in id (on_is id ∙ same_self id) (g.holds.role_is ∙ client) (call_on id s.calls) f (stood_on id))
