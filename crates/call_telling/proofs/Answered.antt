@@ -28,8 +28,9 @@ use Rattle.call_sending.specs.Spelling.{IsHeaded, Sends, Speaks, Spells, parts_o
 use Rattle.call_sending.proofs.Kept.{prepared_same}
 use Rattle.call_standing.specs.Standing.{Holds, IsUnkept, StandsOn, State}
 use Rattle.call_standing.proofs.Pushed.{holds_pushed, on_kept, parts_beside, pushed}
-use Rattle.call_standing.proofs.Sent.{begun_same, ended_same, events_kept, parts_stop, plain, reset_is_plain, spent_same}
-use Rattle.call_standing.proofs.Stopping.{is_stopped, request_stop, response_stop, says, unstopped}
+use Rattle.call_sending.proofs.Sent.{begun_same, ended_same, no_headers, parts_stop, reset_is_plain, spent_same}
+use Rattle.call_sending.proofs.Stopping.{headed_more, is_stopped, request_stop, response_stop, says, unstopped}
+use Rattle.call_standing.proofs.Sent.{events_kept}
 
 not_begun : (ps : List Part) (why : ErrorCode) → has_begun (ps ++ Stopped why ∷ []) ≡ true → has_begun ps ≡ true
 not_begun [] why h = absurd cc
@@ -37,15 +38,6 @@ not_begun (Fields f false ∷ ps) why h = refl
 not_begun (Fields f true ∷ ps) why h = absurd cc
 not_begun (Piece b l ∷ ps) why h = absurd cc
 not_begun (Stopped w ∷ ps) why h = absurd cc
-
-headed_more : (ps : List Part) (why : ErrorCode) → IsHeaded (ps ++ Stopped why ∷ [])
-headed_more [] why = tt
-headed_more (p ∷ ps) why = tt
-
-headed_stop : (head : List Field) (ps : List Part) (bytes : List ℕ) (ended : Bool) (why : ErrorCode) → IsHeaded ps → IsRequest head ps bytes ended → list_any is_stopped ps ≡ false →
-    IsRequest head (ps ++ Stopped why ∷ []) bytes ended
-headed_stop head [] bytes ended why some h n = absurd some
-headed_stop head (p ∷ ps) bytes ended why some h n = request_stop head p ps bytes ended why h n
 
 end_said : (read : List Field → CallEnd) (c : StreamEnd) → end_by response_fields read c ≡ option_map read (says c)
 end_said read (Trailers fields) = refl
@@ -93,27 +85,27 @@ module _ (t : CallTrace) (f : Frame) (opened : open_block (sent t.connection_tra
       let r = response_stop response_fields (parts_on t (stream_of f)) h.bytes h.close (code_of f) h.response no_stop in
       record {
         bytes = h.bytes;
-        close = r.now;
-        response = subst (λ (ps : List Part). IsResponse response_fields ps h.bytes r.now) (sym parts_now) r.response;
+        close = r.0;
+        response = subst (λ (ps : List Part). IsResponse response_fields ps h.bytes r.0) (sym parts_now) r.1;
         text = h.text;
         begins = λ b. h.begins (not_begun (parts_on t (stream_of f)) (code_of f) (ap has_begun (sym parts_now) ∙ b));
         closes = λ c q.
-            h.closes c (end_said (call_end_of t.numbers) h.close ∙ ap (option_map (call_end_of t.numbers)) (sym r.same) ∙ sym (end_said (call_end_of t.numbers) r.now) ∙ q);
+            h.closes c (end_said (call_end_of t.numbers) h.close ∙ ap (option_map (call_end_of t.numbers)) (sym r.2) ∙ sym (end_said (call_end_of t.numbers) r.0) ∙ q);
       }
   spells_on Client rest e h =
       let some : IsHeaded (parts_on t (stream_of f)) = h.headed (ap (λ (r : Role). is_begun r t.connection_trace.frames (stream_of f)) (sym e) ∙ begun) in
       record {
         bytes = h.bytes;
         is_last = h.is_last;
-        headed = λ b. subst IsHeaded (sym parts_now) (headed_more (parts_on t (stream_of f)) (code_of f));
+        headed = λ b. subst IsHeaded (sym parts_now) (headed_more (parts_on t (stream_of f)) (Stopped (code_of f)) some);
         request = subst (λ (ps : List Part). IsRequest (asked_on t (stream_of f)).head ps h.bytes h.is_last) (sym parts_now)
-            (headed_stop (asked_on t (stream_of f)).head (parts_on t (stream_of f)) h.bytes h.is_last (code_of f) some h.request no_stop);
+            (request_stop (asked_on t (stream_of f)).head (parts_on t (stream_of f)) h.bytes h.is_last (code_of f) some h.request no_stop);
         text = h.text;
         closes = h.closes;
       }
 
   begun_next : (id : ℕ) → is_begun t.connection_trace.role next.connection_trace.frames id ≡ is_begun t.connection_trace.role t.connection_trace.frames id
-  begun_next id = begun_same t.connection_trace.role t.connection_trace.frames f id (plain f (reset_is_plain f rst)).no_headers
+  begun_next id = begun_same t.connection_trace.role t.connection_trace.frames f id (no_headers f (reset_is_plain f rst))
 
   ended_now : is_ended_by (sent next.connection_trace.frames) (stream_of f) ≡ is_ended_by (sent t.connection_trace.frames) (stream_of f)
   ended_now =

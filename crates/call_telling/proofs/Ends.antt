@@ -33,7 +33,8 @@ use Rattle.call_sending.specs.Spelling.{Speaks}
 use Rattle.call_standing.specs.Standing.{Holds, IsGoing, IsHiding, IsRefused, IsRest, StandsOn, State, bare, is_once}
 use Rattle.call_standing.proofs.Pushed.{control_holds}
 use Rattle.call_standing.proofs.Rest.{rest_of}
-use Rattle.call_standing.proofs.Sent.{events_kept, is_control}
+use Rattle.call_sending.specs.Moves.{is_control}
+use Rattle.call_standing.proofs.Sent.{events_kept}
 use Rattle.call_telling.specs.Giving.{HasGiven, untaken}
 use Rattle.call_telling.proofs.Given.{Quietly, further, quietly, split_is}
 use Rattle.call_telling.proofs.Receives.{receives_hold, still_closed_at}
