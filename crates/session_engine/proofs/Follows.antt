@@ -1,18 +1,22 @@
 -- One more action over all that was done.
-use Rattle.std.proofs.Common.{◌≡◌, ℕ, ◌==◌, Bool, true, false, ◌||◌, if◌then◌else◌, List, ◌∷◌, Option, Some, None, refl, sym, ap, ◌∙◌, subst, eq-eqb, inl, inr, ◌⊎◌}
+use Rattle.std.proofs.Common.{◌≡◌, ℕ, ◌==◌, Bool, true, false, ◌||◌, if◌then◌else◌, List, ◌∷◌, ◌++◌, Option, Some, None, refl, sym, ap, ◌∙◌, subst, eq-eqb, inl, inr, ◌⊎◌}
 use Rattle.std.specs.List.{list_any}
 use Rattle.std.proofs.lemmas.Bool.{eqb-true}
 use Rattle.std.proofs.lemmas.List.Folds.{list_any-append}
 use Rattle.grpc_heads.specs.CallEnd.{CallEnd}
+use Rattle.grpc_heads.specs.declared.head.Method.{Method}
+use Rattle.h2_exchange.specs.Calls.{Call}
 use Rattle.h2_exchange.specs.StreamParts.{Item}
+use Rattle.table_model.specs.Event.{Event}
 use Rattle.call_answers.specs.declared.orders.Setting.{Setting}
 use Rattle.call_orders.specs.Owed.{has_end, is_end}
 use Rattle.call_orders.specs.Calls.{CallState, Over, Standing, Action, Handles, Collects, Continues, after, next_state, owing, standing, stream_of, without_leaves}
 use Rattle.call_orders.specs.Actions.{AreActions, IsAction}
+use Rattle.call_orders.specs.Orders.{IsRunning, IsSpent}
 use Rattle.session_engine.specs.declared.open_calls.OpenCall.{OpenCall}
-use Rattle.session_engine.specs.Laws.{ActionsFollow, AreOpen, BeginsFollow, FollowsBy}
+use Rattle.session_engine.specs.Laws.{ActionsFollow, AreOpen, BeginsFollow, FollowsBy, SpentBeginsFollow, SpentFollows}
 use Rattle.session_engine.specs.Queries.{OpenCallsView, call_on}
-use Rattle.session_engine.specs.Stands.{AreSameElsewhere, IsUnended, Stands, Takes}
+use Rattle.session_engine.specs.Stands.{AreSameElsewhere, IsUnended, Stands, StopsIn, Takes}
 
 owing_unended : (st : Standing) (state : CallState) (more : List (Item CallEnd)) → (st.state ≡ Over → state ≡ Over) → IsUnended st → IsUnended (owing st state more)
 owing_unended st state more keeps unended = by (has_end more) refl unended
@@ -67,3 +71,24 @@ actions_follow s old new actions stream action items h takes others is = follows
 
 pub begins_follow : (s : Setting) → BeginsFollow s
 begins_follow s old new actions stream action items h at takes others is = follows_by s old new actions stream action items h others is (takes (standing s actions stream) at (h.unended stream))
+
+-- ---- a call that was Spent
+
+spent_by : (s : Setting) (actions : List Action) (stream : ℕ) (handled others : List (Call Method CallEnd)) (did : List Event) → StopsIn s (standing s actions stream) stream handled did → IsRunning actions
+    → IsSpent s actions (handled ++ others) did
+spent_by s actions stream handled others did h running = inl (
+  running,
+  h.action,
+  h.next,
+  h.behind,
+  others,
+  h.events_are,
+  subst (λ (n : ℕ). IsAction s (standing s actions n) h.action) (sym h.stream_is) h.right,
+  ap (λ (l : List (Call Method CallEnd)). l ++ others) (sym h.calls_are),
+)
+
+pub spent_follows : (s : Setting) → SpentFollows s
+spent_follows s calls actions stream handled others did h stops running = spent_by s actions stream handled others did (stops (standing s actions stream) (h.stands stream) (h.unended stream)) running
+
+pub spent_begins_follow : (s : Setting) → SpentBeginsFollow s
+spent_begins_follow s calls actions stream handled others did h at stops running = spent_by s actions stream handled others did (stops (standing s actions stream) at (h.unended stream)) running

@@ -265,7 +265,7 @@ no_front [] ys e = refl
 no_front (x ∷ xs) ys e = absurd (cc e)
 
 -- a step without messages gets the end for want of memory
-ended_step : (b : Step) → map {B = Item CallEnd} Message b.answers ≡ [] → items_in (record b { end = Some want_of_memory }) ≡ end_items (Some want_of_memory)
+pub ended_step : (b : Step) → map {B = Item CallEnd} Message b.answers ≡ [] → items_in (record b { end = Some want_of_memory }) ≡ end_items (Some want_of_memory)
 ended_step b e = ap (λ (l : List (Item CallEnd)). l ++ end_items (Some want_of_memory)) e
 
 module _ {G : Type 0} (lawful : G → List (Entry Command Reply) → Type 0) (setup : G) where

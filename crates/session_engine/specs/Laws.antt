@@ -1,12 +1,16 @@
 -- What follows of the clauses of one call of the engine, over all that was done on a connection.
 use Rattle.std.specs.Prelude.{◌≡◌, ℕ, List, ◌∷◌, ◌++◌, Option}
 use Rattle.grpc_heads.specs.CallEnd.{CallEnd}
+use Rattle.grpc_heads.specs.declared.head.Method.{Method}
+use Rattle.h2_exchange.specs.Calls.{Call}
 use Rattle.h2_exchange.specs.StreamParts.{Item}
+use Rattle.table_model.specs.Event.{Event}
 use Rattle.call_answers.specs.declared.orders.Setting.{Setting}
-use Rattle.call_orders.specs.Calls.{CallState, Action, standing, stream_of}
+use Rattle.call_orders.specs.Calls.{CallState, Standing, Action, standing, stream_of}
 use Rattle.call_orders.specs.Actions.{AreActions}
+use Rattle.call_orders.specs.Orders.{IsRunning, IsSpent}
 use Rattle.session_engine.specs.Queries.{OpenCallsView, call_on}
-use Rattle.session_engine.specs.Stands.{AreSameElsewhere, IsNotBegun, IsUnended, Stands, TakesFrom}
+use Rattle.session_engine.specs.Stands.{AreSameElsewhere, IsNotBegun, IsUnended, Stands, StopsIn, TakesFrom}
 
 -- the open calls stand as these actions leave them
 pub record AreOpen (s : Setting) (calls : OpenCallsView) (actions : List Action) : Type 0 where
@@ -33,3 +37,16 @@ BeginsFollow s = (old new : OpenCallsView) (actions : List Action) (stream : ℕ
     → AreOpen s old actions → IsNotBegun (standing s actions stream).state → TakesFrom s IsNotBegun (call_on new stream) action items
     → AreSameElsewhere stream old new
     → ((cut : Option ℕ) → stream_of (action cut) ≡ stream) → FollowsBy s new actions stream action items
+
+-- Where a call of the lock was Spent, what was made is the first of an action that may be taken behind those that were: so it says of a
+-- call that stands as an open one, and of one that was not begun.
+abbrev pub SpentFollows : Setting → Type 0
+SpentFollows s = (calls : OpenCallsView) (actions : List Action) (stream : ℕ) (handled others : List (Call Method CallEnd)) (did : List Event)
+    → AreOpen s calls actions → ((st : Standing) → Stands s (call_on calls stream) st.state → IsUnended st → StopsIn s st stream handled did)
+    → IsRunning actions → IsSpent s actions (handled ++ others) did
+
+abbrev pub SpentBeginsFollow : Setting → Type 0
+SpentBeginsFollow s = (calls : OpenCallsView) (actions : List Action) (stream : ℕ) (handled others : List (Call Method CallEnd)) (did : List Event)
+    → AreOpen s calls actions → IsNotBegun (standing s actions stream).state
+    → ((st : Standing) → IsNotBegun st.state → IsUnended st → StopsIn s st stream handled did) → IsRunning actions
+    → IsSpent s actions (handled ++ others) did

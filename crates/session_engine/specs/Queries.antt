@@ -1,5 +1,5 @@
 -- The calls that aren't over, and what is asked of one.
-use Rattle.std.specs.Prelude.{ℕ, Bool, true, false, List, Option, Some, None}
+use Rattle.std.specs.Prelude.{ℕ, suc, length, Bool, true, false, List, Option, Some, None}
 use Rattle.std.specs.BTreeMap.{is_at}
 use Rattle.std.specs.Map.{lookup}
 use Rattle.std.specs.Ordering.{nat_cmp}
@@ -29,6 +29,11 @@ open_session other = None
 abbrev pub is_responding : Option OpenCall → Bool
 is_responding (Some (opened.Responds rows)) = true
 is_responding other = false
+
+-- how much a Get is still to be given: its rows, and its end
+abbrev pub remaining : Option OpenCall → ℕ
+remaining (Some (opened.Responds rows)) = suc (length rows)
+remaining other = 0
 
 -- a further message of a Get or a Flush
 abbrev pub receiving : List ℕ → OpenCall → OpenCall

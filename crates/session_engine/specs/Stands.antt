@@ -14,7 +14,7 @@ use Rattle.table_model.specs.declared.reply.Reply.{Reply}
 use Rattle.table_model.specs.Event.{Event}
 use Rattle.call_answers.specs.declared.orders.Setting.{Setting}
 use Rattle.call_orders.specs.Owed.{has_end, items_by, selected_items}
-use Rattle.call_orders.specs.Calls.{CallState, NotBegun, Modifies, Receives, Responds, Over, Standing, Action, Handles, after, calls_of, events_of, refusal_for, stream_of, without_leaves}
+use Rattle.call_orders.specs.Calls.{CallState, NotBegun, Modifies, Receives, Responds, Over, Standing, Action, Handles, Continues, after, calls_of, events_of, refusal_for, stream_of, without_leaves}
 use Rattle.call_orders.specs.Actions.{IsAction}
 use Rattle.call_orders.specs.Orders.{is_stopped}
 use Rattle.session_engine.specs.declared.open_calls.OpenCall.{OpenCall}
@@ -120,6 +120,12 @@ pub data IsDropOf (id : ℕ) : Call Method CallEnd → Type 0 where
 -- A call of a Get or a Flush begins, which makes no entry.
 pub record Opens (s : Setting) (old new : OpenCallsView) (stream : ℕ) (method : Method) (step : Step) : Type 0 where
   pub takes : TakesFrom s IsNotBegun (call_on new stream) (Handles (Begun stream method) []) (λ _. items_in step)
+  pub others : AreSameElsewhere stream old new
+  pub quiet : step.halted ≡ false
+
+-- The next response of a Get is given, with the good end beside the last, which makes no entry.
+pub record ContinuesCall (s : Setting) (old new : OpenCallsView) (stream : ℕ) (step : Step) : Type 0 where
+  pub takes : TakesFrom s (Stands s (call_on old stream)) (call_on new stream) (Continues stream) (λ _. items_in step)
   pub others : AreSameElsewhere stream old new
   pub quiet : step.halted ≡ false
 

@@ -1,4 +1,4 @@
-ghost use Rattle.std.specs.Prelude.{◌≡◌, ℕ, [], ◌∷◌, List, Option, Bool, Ok, IfOk, IfErr, IsSome, None, Some, is_some, true, false};
+ghost use Rattle.std.specs.Prelude.{◌≡◌, ℕ, ◌<◌, [], ◌∷◌, List, Option, Bool, Ok, IfOk, IfErr, IsSome, None, Some, is_some, not, true, false};
 ghost use Rattle.h2_exchange.specs.Calls.{Call, Begun, Request, Finished};
 ghost use Rattle.grpc_heads.specs.CallEnd.{CallEnd};
 ghost use Rattle.table_lock.specs.Passes.{IsPassOf, IsSound};
@@ -6,13 +6,14 @@ ghost use Rattle.call_answers.specs.declared.orders.Setting.{Setting as SettingV
 ghost use Rattle.call_orders.specs.Calls.{Collects, Handles, asked_by};
 ghost use Rattle.call_orders.specs.Actions.{timeless};
 ghost use Rattle.call_orders.specs.Laws.{is_single};
-ghost use Rattle.session_engine.specs.Queries.{call_on, is_responding, session_in};
+ghost use Rattle.session_engine.specs.Queries.{call_on, is_responding, remaining, session_in};
 ghost use Rattle.session_engine.specs.Singles.{IsReceiving, is_single_command};
-ghost use Rattle.session_engine.specs.Stands.{DoesAction, DropsCall, HandlesCall, IsDropOf, IsNotBegun, IsSpentIn, Opens, Stands};
+ghost use Rattle.session_engine.specs.Stands.{ContinuesCall, DoesAction, DropsCall, HandlesCall, IsDropOf, IsNotBegun, IsSpentIn, Opens, Stands};
 
 use crate::closing::{begin_session, close_up, leave};
 use crate::commands::{do_collect, do_message};
 use crate::endings::want_of_memory;
+use crate::known_rows::Given;
 use crate::open_calls::{OpenCall, OpenCalls};
 use crate::singles::{Asked, SingleEnd, do_single, read_asked};
 use crate::step::{EngineFault, Step};
@@ -380,5 +381,33 @@ impl SessionEngine {
         ensures { result ≡ is_responding (call_on self.now stream) }
     {
         self.calls.is_responding(stream)
+    }
+
+    /// The next response of a Get whose rows were selected, with its good end beside the last. Where it selected no row it is given
+    /// the end alone. A stream on which no such Get waits is given nothing.
+    pub fn more(&mut self, setting: &Setting, stream: u32) -> Step
+        ensures given { is_responding (call_on self.old stream) ≡ true → ContinuesCall setting.now self.old self.new stream result }
+        ensures falls { is_responding (call_on self.old stream) ≡ true
+            → remaining (call_on self.new stream) < remaining (call_on self.old stream) }
+        ensures over { is_responding (call_on self.old stream) ≡ true → is_some result.end ≡ not (is_responding (call_on self.new stream)) }
+        ensures nothing { is_responding (call_on self.old stream) ≡ false
+            → (self.new ≡ self.old) × (result ≡ record { answers = []; end = None; halted = false }) }
+    {
+        let mut step = Step::new(self.alloc);
+        if !self.calls.is_responding(stream) {
+            return step;
+        }
+        match self.calls.give(self.alloc, setting, stream, &mut step) {
+            Given::Part => step,
+            Given::Last => {
+                self.calls.remove(stream);
+                step
+            }
+            Given::OutOfMemory => {
+                self.calls.remove(stream);
+                step.end = Some(want_of_memory());
+                step
+            }
+        }
     }
 }

@@ -15,12 +15,14 @@ mod closing;
 mod commands;
 mod endings;
 mod engine;
+mod known_rows;
 mod laws;
 mod open_calls;
 mod singles;
 mod step;
 
 pub use engine::SessionEngine;
-pub use laws::{actions_follow, begins_follow};
+pub use known_rows::KnownRows;
+pub use laws::{actions_follow, begins_follow, spent_follows};
 pub use open_calls::OpenCall;
 pub use step::{EngineFault, Messages, Step};

@@ -1,10 +1,13 @@
-ghost use Rattle.std.specs.Prelude.{◌≡◌, ℕ, None, Some, OnOk, OnErr, IfSome, IfNone, IsSome, is_some};
+ghost use Rattle.std.specs.Prelude.{◌≡◌, ℕ, None, Some, OnOk, OnErr, IfSome, IfNone, IsSome, is_some, true};
 ghost use Rattle.std.specs.Option.{option_map};
+ghost use Rattle.session_engine.specs.Responding.{GivesOf};
 ghost use Rattle.session_engine.specs.Stands.{AreSameElsewhere};
 ghost use Rattle.session_engine.specs.Queries.{call_on, finishing, is_responding, open_session, received_by, receiving, session_in};
 
+use crate::known_rows::{Given, KnownRows, give_next};
+use crate::step::Step;
 use bytes::Bytes;
-use call_requests::Selection;
+use call_answers::Setting;
 use grpc_heads::Method;
 use std::alloc::{AllocError, Global};
 use std::collections::BTreeMap;
@@ -18,7 +21,7 @@ pub enum OpenCall {
     /// A Get or a Flush whose client has more to say: its first message, and whether others came.
     Receives(Method, Option<Bytes>, bool),
     /// A Get, with the rows that it is still to be given.
-    Responds(Selection),
+    Responds(KnownRows),
 }
 
 /// The calls of a connection that aren't over. Contracts see the call on each stream.
@@ -60,6 +63,19 @@ fn finish(call: &mut OpenCall)
     match call {
         OpenCall::Modifies(_, is_finished) => *is_finished = true,
         _ => {}
+    }
+}
+
+// Gives the next response of a Get whose rows were selected.
+fn give(call: &mut OpenCall, alloc: Global, setting: &Setting, out: &mut Step) -> Given
+    requires responds { is_responding (Some call.old) ≡ true }
+    requires no_end { out.old.end ≡ None }
+    ensures given { GivesOf setting.now result (Some call.old) (Some call.new) out.old out.new }
+    ensures halted { out.new.halted ≡ out.old.halted }
+{
+    match call {
+        OpenCall::Responds(rows) => give_next(alloc, setting, rows, out),
+        _ => unreachable!(),
     }
 }
 
@@ -159,6 +175,26 @@ impl OpenCalls {
         match self.map.get(&stream) {
             Some(OpenCall::Responds(_)) => true,
             _ => false,
+        }
+    }
+
+    // Gives the next response of a Get whose rows were selected.
+    pub(crate) fn give(
+        &mut self,
+        alloc: Global,
+        setting: &Setting,
+        stream: u32,
+        out: &mut Step,
+    ) -> Given
+        requires responds { is_responding (call_on self.old stream) ≡ true }
+        requires no_end { out.old.end ≡ None }
+        ensures given { GivesOf setting.now result (call_on self.old stream) (call_on self.new stream) out.old out.new }
+        ensures others { AreSameElsewhere stream self.old self.new }
+        ensures halted { out.new.halted ≡ out.old.halted }
+    {
+        match self.map.get_mut(&stream) {
+            None => unreachable!(),
+            Some(call) => give(call, alloc, setting, out),
         }
     }
 

@@ -1,5 +1,5 @@
 //! A Get and a Flush: what their message asks for, and what its reply brings.
-ghost use Rattle.std.specs.Prelude.{◌≡◌, ◌||◌, ◌++◌, ◌∷◌, [], codes, None, Some, OnOk, OnErr, true};
+ghost use Rattle.std.specs.Prelude.{◌≡◌, ◌||◌, ◌++◌, ◌∷◌, [], codes, All, IfSome, None, Some, OnOk, OnErr, true};
 ghost use Rattle.table_lock.specs.Passes.{IsPassOf, IsSound};
 ghost use Rattle.call_requests.specs.Asked.{invalid};
 ghost use Rattle.call_orders.specs.Owed.{flush_response, items_by, ok};
@@ -8,13 +8,16 @@ ghost use Rattle.call_orders.specs.Requests as requests;
 ghost use Rattle.call_orders.specs.Orders.{is_stopped_by};
 ghost use Rattle.session_engine.specs.Singles.{AddsOrNone, AsksFor, EndsSingle, IsRefusal, SingleGoes, flush_moment, flushed_by, is_single_command, single_items};
 ghost use Rattle.session_engine.specs.Stands.{items_in};
+ghost use Rattle.session_engine.specs.Steps.{rows_selected};
+ghost use Rattle.gribi_messages.specs.Rows.{RowHasKnownInstances};
 
 use crate::commands::{discard, is_stopped};
 use crate::endings::good_end;
+use crate::known_rows::{KnownRows, names_known};
 use crate::step::Step;
 use bytes::Bytes;
 use call_answers::{Setting, end_of};
-use call_requests::{AskFault, Selection, flush_response, read_flush, read_get};
+use call_requests::{AskFault, flush_response, read_flush, read_get};
 use grpc_heads::{Method, Status, Text};
 use std::alloc::{AllocError, Global};
 use std::sync::Wait;
@@ -97,7 +100,7 @@ pub(crate) fn read_asked(
 #[derive(Drop)]
 pub(crate) enum SingleEnd {
     /// A Get selected rows, and none is given yet.
-    Selects(Selection),
+    Selects(KnownRows),
     /// The call is over.
     Over,
     /// There was no memory for its answer.
@@ -169,11 +172,12 @@ fn answer_single(
     }
 }
 
-fn selected(reply: Reply) -> SingleEnd
+fn selected(reply: Reply, instances: u16) -> SingleEnd
+    requires { IfSome (rows_selected reply) (λ rows. All (RowHasKnownInstances instances) rows) }
     ensures { EndsSingle reply true result }
 {
     match reply {
-        Reply::Selected(rows) => SingleEnd::Selects(Selection::new(rows)),
+        Reply::Selected(rows) => SingleEnd::Selects(KnownRows::new(rows, instances)),
         other => {
             discard(other);
             SingleEnd::Over
@@ -181,11 +185,12 @@ fn selected(reply: Reply) -> SingleEnd
     }
 }
 
-fn ended(reply: Reply, told: bool) -> SingleEnd
+fn ended(reply: Reply, told: bool, instances: u16) -> SingleEnd
+    requires { IfSome (rows_selected reply) (λ rows. All (RowHasKnownInstances instances) rows) }
     ensures { EndsSingle reply told result }
 {
     if told {
-        selected(reply)
+        selected(reply, instances)
     } else {
         discard(reply);
         SingleEnd::OutOfMemory
@@ -212,8 +217,13 @@ pub(crate) fn do_single<R: Wait, M: Machine<Command = Command, Reply = Reply>>(
     match lock.call(rt, pass, command) {
         Err(_) => SingleEnd::Spent,
         Ok(reply) => {
+            let instances = setting.instances.count();
+            if !names_known(&reply, instances) {
+                discard(reply);
+                return SingleEnd::OutOfMemory;
+            }
             let told = answer_single(alloc, setting, moment, &reply, out);
-            ended(reply, told)
+            ended(reply, told, instances)
         }
     }
 }

@@ -1,22 +1,29 @@
-ghost use Rattle.std.specs.Prelude.{◌≡◌, [], ◌∷◌, ◌++◌, None, OnOk, OnErr, false, map, option_to_list};
+ghost use Rattle.std.specs.Prelude.{◌≡◌, ◌≤◌, [], ◌∷◌, ◌++◌, All, IfSome, None, OnOk, OnErr, false, length, map, option_to_list};
+ghost use Rattle.call_answers.specs.Answers.{MAX_MESSAGE_SIZE};
 
 use call_answers::Message;
 use grpc_heads::Status;
 use std::alloc::{AllocError, Global};
 use std::marker::Model;
 
-/// Messages, in their order. Contracts see each as its bytes.
+/// How long a message is at most.
+pub(crate) const LONGEST_MESSAGE: usize = 4_194_304;
+
+/// Messages that may be sent, in their order. Contracts see each as its bytes.
 #[derive(Drop)]
 pub struct Messages {
     items: Vec<Vec<u8>>,
 }
 
 impl Model for Messages {
-    ghost use Rattle.std.specs.Prelude.{List, ℕ, map};
+    ghost use Rattle.std.specs.Prelude.{List, ℕ, ◌≤◌, All, length, map};
+    ghost use Rattle.call_answers.specs.Answers.{MAX_MESSAGE_SIZE};
 
     ghost Value = { List (List ℕ) };
 
     ghost view = { λ m. map (λ bytes. bytes.items) m.items.items };
+
+    ghost invariant = { λ m. All (λ bytes. length bytes.items ≤ MAX_MESSAGE_SIZE) m.items.items };
 }
 
 impl Messages {
@@ -29,8 +36,9 @@ impl Messages {
         }
     }
 
-    /// Appends a message of these bytes. It fails for want of memory alone.
-    pub fn push(&mut self, bytes: Vec<u8>) -> Result<(), AllocError>
+    // Appends a message of these bytes. It fails for want of memory alone.
+    pub(crate) fn push(&mut self, bytes: Vec<u8>) -> Result<(), AllocError>
+        requires { length bytes.items ≤ MAX_MESSAGE_SIZE }
         ensures ok { OnOk result (self.new ≡ self.old ++ bytes.items ∷ []) }
         ensures err { OnErr result (self.new ≡ self.old) }
     {
@@ -40,6 +48,7 @@ impl Messages {
 
     // Appends a message, if there is one.
     pub(crate) fn push_message(&mut self, message: Option<Message>) -> Result<(), AllocError>
+        requires { IfSome message (λ bytes. length bytes ≤ MAX_MESSAGE_SIZE) }
         ensures ok { OnOk result (self.new ≡ self.old ++ option_to_list message) }
         ensures err { OnErr result (self.new ≡ self.old) }
     {
@@ -49,9 +58,10 @@ impl Messages {
         }
     }
 
-    /// The messages, as a vector.
+    /// The messages, as a vector. Each may be sent.
     pub fn into_vec(self) -> Vec<Vec<u8>>
-        ensures { map (λ bytes. bytes.items) result.items ≡ self }
+        ensures items { map (λ bytes. bytes.items) result.items ≡ self }
+        ensures short { All (λ bytes. length bytes.items ≤ MAX_MESSAGE_SIZE) result.items }
     {
         let Messages { items } = self;
         items
