@@ -29,20 +29,8 @@ use Rattle.call_sending.proofs.Kept.{prepared_same}
 use Rattle.call_standing.specs.Standing.{Holds, IsUnkept, StandsOn, State}
 use Rattle.call_standing.proofs.Pushed.{holds_pushed, on_kept, parts_beside, pushed}
 use Rattle.call_sending.proofs.Sent.{begun_same, ended_same, no_headers, parts_stop, reset_is_plain, spent_same}
-use Rattle.call_sending.proofs.Stopping.{headed_more, is_stopped, request_stop, response_stop, says, unstopped}
 use Rattle.call_standing.proofs.Sent.{events_kept}
-
-not_begun : (ps : List Part) (why : ErrorCode) → has_begun (ps ++ Stopped why ∷ []) ≡ true → has_begun ps ≡ true
-not_begun [] why h = absurd cc
-not_begun (Fields f false ∷ ps) why h = refl
-not_begun (Fields f true ∷ ps) why h = absurd cc
-not_begun (Piece b l ∷ ps) why h = absurd cc
-not_begun (Stopped w ∷ ps) why h = absurd cc
-
-end_said : (read : List Field → CallEnd) (c : StreamEnd) → end_by response_fields read c ≡ option_map read (says c)
-end_said read (Trailers fields) = refl
-end_said read Unclosed = refl
-end_said read WasReset = refl
+use Rattle.call_sending.proofs.Stopping.{end_is, headed_more, is_stopped, request_stop, response_stop, same_begun, unstopped}
 
 not_open : (begun over ended : Bool) → over ≡ true → ((begun && not over) && not ended) ≡ true → ⊥
 not_open true true ended e h = cc
@@ -88,9 +76,9 @@ module _ (t : CallTrace) (f : Frame) (opened : open_block (sent t.connection_tra
         close = r.0;
         response = subst (λ (ps : List Part). IsResponse response_fields ps h.bytes r.0) (sym parts_now) r.1;
         text = h.text;
-        begins = λ b. h.begins (not_begun (parts_on t (stream_of f)) (code_of f) (ap has_begun (sym parts_now) ∙ b));
+        begins = λ b. h.begins (sym (same_begun (parts_on t (stream_of f)) (code_of f)) ∙ ap has_begun (sym parts_now) ∙ b);
         closes = λ c q.
-            h.closes c (end_said (call_end_of t.numbers) h.close ∙ ap (option_map (call_end_of t.numbers)) (sym r.2) ∙ sym (end_said (call_end_of t.numbers) r.0) ∙ q);
+            h.closes c (end_is (call_end_of t.numbers) h.close ∙ ap (option_map (call_end_of t.numbers)) (sym r.2) ∙ sym (end_is (call_end_of t.numbers) r.0) ∙ q);
       }
   spells_on Client rest e h =
       let some : IsHeaded (parts_on t (stream_of f)) = h.headed (ap (λ (r : Role). is_begun r t.connection_trace.frames (stream_of f)) (sym e) ∙ begun) in

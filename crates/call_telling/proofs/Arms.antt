@@ -32,7 +32,7 @@ use Rattle.call_hearing.specs.declared.pending.Pending.{Pending}
 use Rattle.call_hearing.specs.declared.pending.Pending.TheVariants.{Nothing, Cut, End}
 use Rattle.call_hearing.specs.Listening.{is_on}
 use Rattle.call_standing.specs.declared.fate.Fate.{Fate}
-use Rattle.call_standing.specs.declared.fate.Fate.TheVariants.{Going, Dead}
+use Rattle.call_standing.specs.declared.fate.Fate.TheVariants.{Going, Dead, Refused, Starved}
 use Rattle.call_standing.specs.Standing.{Holds, IsGoing, IsHiding, IsRefused, StandsFor, StandsOn, State, bare}
 use Rattle.call_standing.specs.Steps.{GoesQuietly, Steps}
 use Rattle.call_standing.proofs.Found.{IsChanged, changed, found}
@@ -41,7 +41,7 @@ use Rattle.call_standing.proofs.Rest.{rest_of}
 use Rattle.call_standing.proofs.Told.{stands_of}
 use Rattle.call_telling.specs.Giving.{HasGiven, is_listening, listens, took_in, untaken}
 use Rattle.call_telling.proofs.Begins.{begins_holds}
-use Rattle.call_telling.proofs.Ends.{dead_going, died, dies_so, forgets, goaway_step, refused_going, runs_out_so, spent_going, stops_so}
+use Rattle.call_telling.proofs.Ends.{dead_going, died, dies_so, forgets, goaway_step, refused_going, runs_out_so, spent_going, starved_going, stops_so}
 use Rattle.call_telling.proofs.Given.{client_unheard_step, comes_in, further, going_quietly, going_so, quietly, rest_at, split_is, tells_so, unheard_step}
 use Rattle.call_telling.proofs.Listened.{dropped_holds, end_holds, fed_holds, finished_holds, reset_holds, response_holds, trailers_hold}
 use Rattle.call_telling.proofs.Unheard.{IsLater}
@@ -242,6 +242,29 @@ module _ {C : Type 0} (stands : C → ConnectionTrace → Type 0) (output : C �
         (dead_going stands output law conn t t.connection_trace g.connected g.alive g.alive (next.stays t.connection_trace) (length (output conn)) refl g.rest, refl),
     inr (dies_so stands output law conn t t.connection_trace g.connected g.alive g.alive (next.stays t.connection_trace)),
   )
+
+-- memory ran out while the calls sent: it is told now
+module _ {C : Type 0} (stands : C → ConnectionTrace → Type 0) (output : C → List ℕ) (conn : C) (s now : State) (t : CallTrace) where
+  starved_of : (fate : Fate) (shown waiting : ℕ) → fate ≡ Starved shown waiting → StandsFor stands output fate conn s t → IsHiding stands output conn shown t × (t.connection_trace.refusal ≡ None)
+  starved_of (Starved x w) shown waiting e h = let same : x ≡ shown = cc in (subst (λ (k : ℕ). IsHiding stands output conn k t) same h.0, h.1)
+  starved_of Going shown waiting e h = absurd cc
+  starved_of Refused shown waiting e h = absurd cc
+  starved_of (Dead x) shown waiting e h = absurd cc
+
+  pub starved_arm : (fate : Fate) (shown waiting : ℕ) → fate ≡ Starved shown waiting → StandsFor stands output fate conn s t →
+      (u : CallTrace) × StandsFor stands output (Dead shown) conn now u × next.NextEvent t says.NoMemory u
+  starved_arm fate shown waiting e h =
+      let was = starved_of fate shown waiting e h in (
+        died t t.connection_trace,
+        (starved_going stands output conn shown t was.0, refl),
+        inr (record {
+          before = t.connection_trace;
+          hidden = [];
+          quiet = refl;
+          tells = record { alive = was.1; goes_on = next.stays t.connection_trace; takes = next.none (died t t.connection_trace) };
+          out = inr refl;
+        }),
+      )
 
 -- the calls gave up, with this answer
 module _ {C : Type 0} (stands : C → ConnectionTrace → Type 0) (output : C → List ℕ) (law : (conn : C) (c : ConnectionTrace) → stands conn c → IsSound c (output conn)) (conn after : C) (same : after ≡ conn)

@@ -1,8 +1,11 @@
 -- What is told of the bytes that a call holds, for the calls as they are kept in a list; and what each step leaves to be told.
-use Rattle.std.proofs.Common.{◌≡◌, ℕ, zero, suc, ◌+◌, ◌<◌, ◌≤◌, Bool, true, false, List, [], ◌∷◌, ◌++◌, length, sum_by, slice_index_or, slice_set, Some, None, refl, sym, ap, subst, ◌∙◌, arith}
-use Rattle.std.specs.Prelude.{if◌then◌else◌, is_some}
-use Rattle.std.proofs.lemmas.List.{append-nil, length-append}
+use Rattle.std.proofs.Common.{◌≡◌, ℕ, zero, suc, ◌+◌, ◌<◌, ◌≤◌, Bool, true, false, List, [], ◌∷◌, ◌++◌, length, sum_by, slice_index_or, slice_set, Some, None, refl, sym, ap, subst, ◌∙◌, arith, cond, ◌==◌}
+use Rattle.std.specs.Prelude.{if◌then◌else◌, is_some, nat_lt}
+use Rattle.std.proofs.lemmas.List.{append-nil, length-append, length-drop}
 use Rattle.std.proofs.lemmas.List.Sums.{sum_by-append}
+use Rattle.std.specs.List.{position, position_or_len}
+use Rattle.std.proofs.lemmas.Bool.Decides.{nat_tests}
+use Rattle.grpc_framing.proofs.Fronts.{front_at-len}
 use Rattle.grpc_framing.specs.CutterState.{CutterState}
 use Rattle.grpc_framing.specs.NextMessage.{NextMessage, fed}
 use Rattle.grpc_framing.specs.declared.cutter.Cut.TheVariants as answer
@@ -128,7 +131,7 @@ first_of c cs =
     omega (arith, alone, sum_by-append held_in (c ∷ []) cs)
 
 -- one call is changed
-pub held_set : (items : List Call) (at : ℕ) (call new : Call) → at < length items → call ≡ slice_index_or items at call →
+held_set : (items : List Call) (at : ℕ) (call new : Call) → at < length items → call ≡ slice_index_or items at call →
     sum_by held_in (states (slice_set items at new)) + held_of call ≡ sum_by held_in (states items) + held_of new
 held_set [] at call new inside is = absurd (omega (arith, inside))
 held_set (x ∷ xs) zero call new inside is =
@@ -138,12 +141,28 @@ held_set (x ∷ xs) (suc n) call new inside is =
     let rest = held_set xs n call new (omega (arith, inside)) is in
     omega (arith, rest, first_of (state_of x) (states (slice_set xs n new)), first_of (state_of x) (states xs))
 
+placed : {X : Type 0} (p : X → Bool) (xs : List X) (at : ℕ) → position p xs ≡ Some at → at < length xs
+placed p xs at e = by (nat_lt (position_or_len p xs) (length xs)) refl e
+  where
+    by : (b : Bool) → nat_lt (position_or_len p xs) (length xs) ≡ b → cond b (Some (position_or_len p xs)) None ≡ Some at → at < length xs
+    by true h e = let same : position_or_len p xs ≡ at = cc in grind (arith, nat_tests)
+    by false h e = absurd cc
+
+pub held_at : (items : List Call) (id at : ℕ) (call new : Call) → position (λ (c : Call). c.stream == id) items ≡ Some at → call ≡ slice_index_or items at call →
+    sum_by held_in (states (slice_set items at new)) + held_of call ≡ sum_by held_in (states items) + held_of new
+held_at items id at call new p is = held_set items at call new (placed (λ (c : Call). c.stream == id) items at p) is
+
 -- one call more holds nothing
 pub held_more : (cs : List CallState) (c : CallState) → c.cutter.held ≡ [] → sum_by held_in (cs ++ c ∷ []) ≡ sum_by held_in cs
 held_more cs c none =
     let alone : sum_by held_in (c ∷ []) ≡ 0 + held_in c = refl in
     let zero_held : held_in c ≡ 0 = ap length none in
     omega (arith, sum_by-append held_in cs (c ∷ []), alone, zero_held)
+
+-- a message takes its bytes from what is held
+pub fewer_held : (old new : CutterState) (m : List ℕ) → NextMessage old (answer.Message m) new → length new.held < length old.held
+fewer_held old new m h =
+    omega (arith, front_at-len old.limit old.held (length m) h.0, ap (λ (k : CutterState). length k.held) h.2, length-drop (5 + length m) old.held)
 
 -- a piece adds at most its bytes
 pub fed_most : (k : CutterState) (bytes : List ℕ) → length (fed k bytes).held ≤ length k.held + length bytes

@@ -144,6 +144,25 @@ forgets s t given quiet h = record {
           silent = ([], sym given ∙ sym (append-nil t.connection_trace.given), refl);
         }))
 
+-- what is sound stays so behind a refusal, where credit is no longer owed
+refused_sound : (c : ConnectionTrace) (bytes : List ℕ) → IsSound c bytes → IsSound (record c { refusal = Some NoMemory }) bytes
+refused_sound c bytes sound = record {
+  front = sound.front;
+  within = sound.within;
+  text = sound.text;
+  read = sound.read;
+  last = sound.last;
+  spelled = sound.spelled;
+  writable = sound.writable;
+  closed = sound.closed;
+  given = sound.given;
+  placed = sound.placed;
+  acknowledged = sound.acknowledged;
+  windows = sound.windows;
+  credited = λ none. absurd cc;
+  resets = sound.resets;
+}
+
 -- the calls gave up for want of memory, where their connection stood so
 abbrev pub died : CallTrace → ConnectionTrace → CallTrace
 died t d = record t { connection_trace = record d { refusal = Some NoMemory } }
@@ -282,23 +301,7 @@ module _ {C : Type 0} (stands : C → ConnectionTrace → Type 0) (output : C �
 
     dead_sound : (shown : ℕ) → shown ≡ length (output conn) → IsSound (record d { refusal = Some NoMemory }) (take shown (output conn))
     dead_sound shown e =
-        let sound = law conn d connected in
-        record {
-          front = sound.front;
-          within = sound.within;
-          text = sound.text ∙ ap (λ (bytes : List ℕ). d.dropped ++ bytes) (sym (take_all shown (output conn) (omega (arith, e))));
-          read = sound.read;
-          last = sound.last;
-          spelled = sound.spelled;
-          writable = sound.writable;
-          closed = sound.closed;
-          given = sound.given;
-          placed = sound.placed;
-          acknowledged = sound.acknowledged;
-          windows = sound.windows;
-          credited = λ none. absurd cc;
-          resets = sound.resets;
-        }
+        refused_sound d (take shown (output conn)) (subst (IsSound d) (sym (take_all shown (output conn) (omega (arith, e)))) (law conn d connected))
 
     pub dead_going : (shown : ℕ) → shown ≡ length (output conn) → IsRest (bare (record t { connection_trace = d })) → IsHiding stands output conn shown (died t d)
     dead_going shown e rest = record {
@@ -309,3 +312,15 @@ module _ {C : Type 0} (stands : C → ConnectionTrace → Type 0) (output : C �
       sound = dead_sound shown e;
       rest = rest;
     }
+
+module _ {C : Type 0} (stands : C → ConnectionTrace → Type 0) (output : C → List ℕ) where
+  -- memory ran out while the calls sent, and it is told now
+  pub starved_going : (conn : C) (shown : ℕ) (t : CallTrace) → IsHiding stands output conn shown t → IsHiding stands output conn shown (died t t.connection_trace)
+  starved_going conn shown t h = record {
+    hidden = h.hidden;
+    connected = h.connected;
+    hides = record { role_is = h.hides.role_is; fed_is = h.hides.fed_is; dropped_is = h.hides.dropped_is; received_is = h.hides.received_is; alive = h.hides.alive };
+    within = h.within;
+    sound = refused_sound t.connection_trace (take shown (output conn)) h.sound;
+    rest = h.rest;
+  }

@@ -130,8 +130,8 @@ module _ {C : Type 0} (stands : C → ConnectionTrace → Type 0) (output : C �
           quietly
           (takes_in before e [] t.taken further split_is s s.calls Nothing quiet r.nothing (λ n off. record { same = refl; none_begins = refl; none_queued = refl })
           (λ n on st.
-              let same : id ≡ n = eqb-true id n (sym (on_is n) ∙ on) in
-              subst (λ (m : ℕ). StandsOn (took_in before e [] t.taken) Nothing m (call_on m s.calls)) same r.stands)
+          let same : id ≡ n = eqb-true id n (sym (on_is n) ∙ on) in
+          subst (λ (m : ℕ). StandsOn (took_in before e [] t.taken) Nothing m (call_on m s.calls)) same r.stands)
           g.holds.once g.holds)
 
       stood_on : (id : ℕ) → StandsOn before Nothing id (call_on id s.calls)

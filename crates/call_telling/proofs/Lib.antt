@@ -15,3 +15,4 @@ pub mod Declines
 pub mod Arms
 pub mod CutArms
 pub mod OneCall
+pub mod RefusalArms

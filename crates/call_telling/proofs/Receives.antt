@@ -33,8 +33,8 @@ use Rattle.call_sending.specs.Spelling.{parts_on}
 use Rattle.call_standing.specs.Standing.{Holds, State, bare}
 use Rattle.call_standing.proofs.Credits.{AreControl, controls_hold, with_frames}
 use Rattle.call_standing.proofs.Rest.{spoken}
-use Rattle.call_sending.specs.Moves.{is_control}
 use Rattle.call_sending.proofs.Sent.{control_is_plain, reset_is_plain, still_closed}
+use Rattle.call_sending.specs.Moves.{is_control}
 use Rattle.call_telling.specs.Giving.{untaken}
 use Rattle.call_telling.proofs.Answered.{error_reset_holds}
 use Rattle.call_telling.proofs.Beside.{beside_holds}
