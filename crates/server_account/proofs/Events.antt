@@ -1,0 +1,300 @@
+-- The next event of a server's calls: what is told without being shown is declined, and then comes what is shown.
+use Rattle.std.proofs.Common.{◌≡◌, inl, inr, ℕ, ◌==◌, Bool, true, false, not, List, [], ◌∷◌, ◌++◌, map, Option, Some, None, refl, sym, ap, subst, ◌∙◌, append_assoc, append-nil, eqb-true}
+use Rattle.std.specs.Prelude.{if◌then◌else◌}
+use Rattle.std.specs.List.{flat_map, list_any}
+use Rattle.std.proofs.lemmas.List.Concat.{flat_map-append}
+use Rattle.grpc_heads.specs.CallEnd.{CallEnd, compressed, method_by, too_long, truncated}
+use Rattle.grpc_heads.specs.Heads.{head_of}
+use Rattle.grpc_heads.specs.declared.head.Method.{Method}
+use Rattle.h2_frames.specs.Stream.{Frames}
+use Rattle.h2_exchange.specs.declared.role.Role.{Role}
+use Rattle.h2_exchange.specs.declared.role.Role.TheVariants.{Server}
+use Rattle.h2_exchange.specs.Calls.{Call, Begun, Request, Finished, Dropped, Declined, are_in_place, calls, ends_asking, is_begun_call, shown_of}
+use Rattle.h2_exchange.specs.Exchange.{Step, collect, received}
+use Rattle.h2_exchange.specs.Order.{peer_preface}
+use Rattle.h2_exchange.specs.Sending.{IsPrefix, ResetsErrors}
+use Rattle.h2_exchange.specs.StreamParts.{Item}
+use Rattle.h2_exchange.specs.Stops.{events}
+use Rattle.h2_exchange.proofs.Answered.{calls_are_in_place}
+use Rattle.h2_exchange.proofs.Places.{same_self}
+use Rattle.http_connection.specs.ConnectionTrace.{ConnectionTrace}
+use Rattle.grpc_stream.specs.declared.event.CallEvent.{CallEvent}
+use Rattle.grpc_stream.specs.declared.event.CallEvent.TheVariants as says
+use Rattle.grpc_stream.specs.CallTrace.{CallTrace, Answered, Asked, IsSoundCallTrace, PeerEvent, reported_by, reported_in}
+use Rattle.grpc_stream.specs.NextEvent.{AppendsPeerEvents, none, one, AreHidden, GivesCallEvent, GoesOn, stays, goes, IsShownAs, NeedsMore, answer_to, asked_of, shown_events_of}
+use Rattle.table_model.specs.Event.{Event}
+use Rattle.call_answers.specs.declared.orders.Setting.{Setting}
+use Rattle.call_orders.specs.Calls.{Action, Handles, NotBegun, Over, Standing, after, not_begun, refusal_for, standing}
+use Rattle.call_orders.specs.Actions.{AreActions, IsAction, calls_in}
+use Rattle.call_orders.proofs.Counts.{standing_here, standing_other}
+use Rattle.session_engine.specs.declared.open_calls.OpenCall.{OpenCall}
+use Rattle.session_engine.specs.declared.open_calls.OpenCall.TheVariants as opened
+use Rattle.session_engine.specs.Laws.{AreOpen, FollowsBy}
+use Rattle.session_engine.specs.Queries.{OpenCallsView, call_on}
+use Rattle.session_engine.specs.Stands.{IsDropOf, dropped_is, declined_is, IsUnended, Stands, state_of}
+use Rattle.server_account.specs.Agreeing.{AreHandled, IsSettled, none_left, told_more}
+use Rattle.server_account.specs.Hearing.{ComesNext, Shows}
+use Rattle.server_account.proofs.Hears.{handled_declines}
+use Rattle.server_account.proofs.Places.{front_in_place, place_of, unheard, unheard_standing}
+use Rattle.server_account.proofs.Serves.{asked_back}
+use Rattle.server_account.proofs.Uses.{handled_on}
+
+-- ---- what a connection that gives events keeps
+
+pub record Went (c d : ConnectionTrace) : Type 0 where
+  pub role : d.role ≡ c.role
+  pub limits : d.limits ≡ c.limits
+  pub fed : d.fed ≡ c.fed
+  pub dropped : d.dropped ≡ c.dropped
+  pub frames : IsPrefix c.frames d.frames
+
+pub went : (c d : ConnectionTrace) → GoesOn c d → Went c d
+went c d (stays _) = record { role = refl; limits = refl; fed = refl; dropped = refl; frames = ([], sym (append-nil c.frames)) }
+went c e (goes _ d _ es now later) =
+    let k : Went d e = went d e later in
+    record {
+      role = k.role ∙ ap (λ (x : ConnectionTrace). x.role) now.goes_on;
+      limits = k.limits ∙ ap (λ (x : ConnectionTrace). x.limits) now.goes_on;
+      fed = k.fed ∙ ap (λ (x : ConnectionTrace). x.fed) now.goes_on;
+      dropped = k.dropped ∙ ap (λ (x : ConnectionTrace). x.dropped) now.goes_on;
+      frames = (now.more ++ k.frames.0, k.frames.1 ∙ ap (λ (x : ConnectionTrace). x.frames ++ k.frames.0) now.goes_on ∙ append_assoc c.frames now.more k.frames.0);
+    }
+
+-- ---- a call that is declined unseen
+
+module _ (s : Setting) where
+  not_open_call : (c : OpenCall) → NotBegun ≡ state_of s c → ⊥
+  not_open_call (opened.Modifies session is_finished) e = cc
+  not_open_call (opened.Receives method first is_more) e = cc
+  not_open_call (opened.Responds rows) e = cc
+
+module _ (s : Setting) (calls : OpenCallsView) (actions : List Action) (id : ℕ) (answer : CallEnd) (open_now : AreOpen s calls actions) (at : standing s actions id ≡ not_begun) where
+  abbrev declines : Action
+  declines = Handles (Declined id answer) [] None
+
+  may_decline : (st : Standing) → st ≡ not_begun → IsAction s st declines
+  may_decline st is = subst (λ (x : Standing). IsAction s x declines) (sym is) (record { last = []; did_is = refl; made = refl; leaves = refl })
+
+  over_then : (st : Standing) → st ≡ not_begun → (after s st declines).state ≡ Over
+  over_then st is = ap (λ (x : Standing). (after s x declines).state) is
+
+  nothing_open : call_on calls id ≡ None
+  nothing_open = by (call_on calls id) (subst (λ (st : Standing). Stands s (call_on calls id) st.state) at (open_now.stands id))
+    where
+      by : (o : Option OpenCall) → Stands s o NotBegun → o ≡ None
+      by None h = refl
+      by (Some c) h = absurd (not_open_call s c h)
+
+  opens_here : Stands s (call_on calls id) (standing s (declines ∷ actions) id).state
+  opens_here = subst (λ (o : Option OpenCall). Stands s o (standing s (declines ∷ actions) id).state) (sym nothing_open) (inr state_is)
+    where
+      state_is : (standing s (declines ∷ actions) id).state ≡ Over
+      state_is = ap (λ (st : Standing). st.state) (standing_here s declines actions id (same_self id)) ∙ over_then (standing s actions id) at
+
+  opens_by : (k : ℕ) (b : Bool) → (id == k) ≡ b → Stands s (call_on calls k) (standing s (declines ∷ actions) k).state
+  opens_by k true e = subst (λ (n : ℕ). Stands s (call_on calls n) (standing s (declines ∷ actions) n).state) (eqb-true id k e) opens_here
+  opens_by k false e = subst (λ (st : Standing). Stands s (call_on calls k) st.state) (sym (standing_other s declines actions k e)) (open_now.stands k)
+
+  unended_by : (k : ℕ) (b : Bool) → (id == k) ≡ b → IsUnended (standing s (declines ∷ actions) k)
+  unended_by k true e =
+      subst (λ (n : ℕ). IsUnended (standing s (declines ∷ actions) n)) (eqb-true id k e)
+      (inl (ap (λ (st : Standing). st.state) (standing_here s declines actions id (same_self id)) ∙ over_then (standing s actions id) at))
+  unended_by k false e = subst IsUnended (sym (standing_other s declines actions k e)) (open_now.unended k)
+
+  open_then : AreOpen s calls (declines ∷ actions)
+  unfolding AreActions
+  open_then = record {
+    stands = λ k. opens_by k (id == k) refl;
+    unended = λ k. unended_by k (id == k) refl;
+    each = (may_decline (standing s actions id) at, open_now.each);
+  }
+
+  items_then : (st : Standing) → st ≡ not_begun → (after s st declines).items ≡ st.items ++ refusal_for s st.state (Declined id answer)
+  items_then st is = subst (λ (x : Standing). (after s x declines).items ≡ x.items ++ refusal_for s x.state (Declined id answer)) (sym is) refl
+
+  abbrev declines_follow : FollowsBy s calls actions id (Handles (Declined id answer) []) (λ state. refusal_for s state (Declined id answer))
+  declines_follow = record {
+    cut = None;
+    open_now = open_then;
+    items_are = ap (λ (st : Standing). st.items) (standing_here s declines actions id (same_self id)) ∙ items_then (standing s actions id) at;
+  }
+
+pub declined_unseen : (s : Setting) (t : CallTrace) (calls : OpenCallsView) (actions : List Action) (own : List Event) (id : ℕ) (answer : CallEnd) → AreHandled s t calls actions own none_left → standing s actions id ≡ not_begun →
+    AreHandled s (told_more t (Declined id answer)) calls (Handles (Declined id answer) [] None ∷ actions) own none_left
+declined_unseen s t calls actions own id answer h at =
+    subst (λ (l : List Event). AreHandled s (told_more t (Declined id answer)) calls (Handles (Declined id answer) [] None ∷ actions) l none_left) (append-nil own)
+    (handled_declines s t calls calls actions own [] id answer h (declines_follow s calls actions id answer h.open_now at) refl
+    (λ over. absurd (never (sym (ap (λ (st : Standing). st.state) at) ∙ over))))
+  where
+    never : NotBegun ≡ Over → ⊥
+    never e = cc
+
+-- ---- what is hidden
+
+appended : (more : List PeerEvent) (t u : CallTrace) → AppendsPeerEvents t more u → u.reported ≡ t.reported ++ more
+appended [] t u (none _) = sym (append-nil t.reported)
+appended (p ∷ more) t u (one _ _ _ _ h) = appended more (record t { reported = t.reported ++ p ∷ []; taken = t.taken ++ answer_to t p }) u h ∙ append_assoc t.reported (p ∷ []) more
+
+nothing_appended : (t u : CallTrace) → AppendsPeerEvents t [] u → u ≡ t
+nothing_appended t u (none _) = refl
+
+one_appended : (t u : CallTrace) (p : PeerEvent) → AppendsPeerEvents t (p ∷ []) u → u ≡ record t { reported = t.reported ++ p ∷ []; taken = t.taken ++ answer_to t p }
+one_appended t u p (one _ _ _ _ h) = nothing_appended _ u h
+
+both_nil : {A : Type 0} (xs ys : List A) → xs ++ ys ≡ [] → (xs ≡ []) × (ys ≡ [])
+both_nil [] ys e = (refl, e)
+both_nil (x ∷ xs) ys e = absurd cc
+
+unseen : (b : Bool) (id : ℕ) → map Asked (if b then Dropped id ∷ [] else []) ≡ [] → b ≡ false
+unseen true id e = absurd cc
+unseen false id e = refl
+
+not_true : (b : Bool) → not b ≡ true → b ≡ false
+not_true true e = absurd cc
+not_true false e = refl
+
+module _ (s : Setting) (calls : OpenCallsView) (own : List Event) (u : CallTrace) (places : are_in_place (flat_map asked_of u.reported) ≡ true) where
+  handled_calls : (t : CallTrace) (actions : List Action) (left : ℕ → List (Item CallEnd)) → AreHandled s t calls actions own left → flat_map asked_of t.reported ≡ calls_in actions
+  handled_calls t actions left h = ap (flat_map asked_of) h.reported ∙ asked_back (calls_in actions)
+
+  calls_then : (t : CallTrace) (actions : List Action) (left : ℕ → List (Item CallEnd)) (c : Call Method CallEnd) (more : List PeerEvent) → AreHandled s t calls actions own left → u.reported ≡ t.reported ++ Asked c ∷ more →
+      are_in_place (calls_in actions ++ c ∷ flat_map asked_of more) ≡ true
+  calls_then t actions left c more h is =
+      ap are_in_place (ap (λ (l : List (Call Method CallEnd)). l ++ c ∷ flat_map asked_of more) (sym (handled_calls t actions left h)) ∙ sym (flat_map-append asked_of t.reported (Asked c ∷ more)) ∙ sym (ap (flat_map asked_of) is)) ∙ places
+
+  abbrev Hidden : List PeerEvent → List PeerEvent → Type 0
+  Hidden hidden more = (t1 : CallTrace) × (actions1 : List Action) × AppendsPeerEvents t1 more u × AreHandled s t1 calls actions1 own none_left
+
+  hide : (hidden more : List PeerEvent) (t : CallTrace) (actions : List Action) → AppendsPeerEvents t (hidden ++ more) u → AreHidden t.reported hidden → AreHandled s t calls actions own none_left → Hidden hidden more
+  hide [] more t actions appends quiet h = (t, actions, appends, h)
+  hide (Asked (Declined id answer) ∷ hidden) more t actions (one _ _ _ _ rest) quiet h =
+      let parts = both_nil (shown_events_of t.reported (Asked (Declined id answer))) (collect shown_events_of (t.reported ++ Asked (Declined id answer) ∷ []) hidden) quiet in
+      let unbegun : list_any (is_begun_call id) (calls_in actions) ≡ false = sym (ap (list_any (is_begun_call id)) (handled_calls t actions none_left h)) ∙ unseen (list_any (is_begun_call id) (flat_map asked_of t.reported)) id parts.0 in
+      let at_u : u.reported ≡ t.reported ++ Asked (Declined id answer) ∷ (hidden ++ more) = appended (hidden ++ more) (told_more t (Declined id answer)) u rest ∙ append_assoc t.reported (Asked (Declined id answer) ∷ []) (hidden ++ more) in
+      let placed = calls_then t actions none_left (Declined id answer) (hidden ++ more) h at_u in
+      let asks : list_any (ends_asking id) (calls_in actions) ≡ false = not_true (list_any (ends_asking id) (calls_in actions)) (place_of (calls_in actions) (flat_map asked_of (hidden ++ more)) (Declined id answer) placed) in
+      let quiet_there = unheard id (calls_in actions) (front_in_place (calls_in actions) (Declined id answer ∷ flat_map asked_of (hidden ++ more)) placed) unbegun asks in
+      hide hidden more (told_more t (Declined id answer)) (Handles (Declined id answer) [] None ∷ actions) rest parts.1
+      (declined_unseen s t calls actions own id answer h (unheard_standing s actions id h.open_now.each quiet_there))
+  hide (Asked (Begun id m) ∷ hidden) more t actions appends quiet h = absurd cc
+  hide (Asked (Request id m) ∷ hidden) more t actions appends quiet h = absurd cc
+  hide (Asked (Finished id) ∷ hidden) more t actions appends quiet h = absurd cc
+  hide (Asked (Dropped id) ∷ hidden) more t actions appends quiet h = absurd cc
+  hide (Answered a ∷ hidden) more t actions appends quiet h = absurd cc
+
+-- ---- what is shown
+
+first_of : (p q : PeerEvent) → p ∷ [] ≡ q ∷ [] → q ≡ p
+first_of p q e = cc
+
+begun_shows : (id : ℕ) (m : Method) (event : CallEvent) → IsShownAs (Asked (Begun id m)) event → Shows event (Begun id m)
+begun_shows id m (says.Begun stream method) (on, same) = ap (λ (k : ℕ). (let c : Call Method CallEnd = Begun k m in c)) (sym on) ∙ ap (λ (x : Method). (let c : Call Method CallEnd = Begun stream x in c)) (sym same)
+begun_shows id m other h = absurd h
+
+request_shows : (id : ℕ) (m : List ℕ) (event : CallEvent) → IsShownAs (Asked (Request id m)) event → Shows event (Request id m)
+request_shows id m (says.Request stream bytes) (on, same) = ap (λ (k : ℕ). (let c : Call Method CallEnd = Request k m in c)) (sym on) ∙ ap (λ (x : List ℕ). (let c : Call Method CallEnd = Request stream x in c)) (sym same)
+request_shows id m other h = absurd h
+
+finished_shows : (id : ℕ) (event : CallEvent) → IsShownAs (Asked (Finished id)) event → Shows event (Finished id)
+finished_shows id (says.Finished stream) on = ap (λ (k : ℕ). (let c : Call Method CallEnd = Finished k in c)) (sym on)
+finished_shows id other h = absurd h
+
+dropped_shows : (id : ℕ) (event : CallEvent) → IsShownAs (Asked (Dropped id)) event → Shows event (Dropped id)
+dropped_shows id (says.Dropped stream) on = subst (λ (k : ℕ). IsDropOf k (Dropped id)) (sym on) dropped_is
+dropped_shows id other h = absurd h
+
+declined_shows : (id : ℕ) (answer : CallEnd) (event : CallEvent) → IsShownAs (Asked (Dropped id)) event → Shows event (Declined id answer)
+declined_shows id answer (says.Dropped stream) on = subst (λ (k : ℕ). IsDropOf k (Declined id answer)) (sym on) (declined_is answer)
+declined_shows id answer other h = absurd h
+
+shows_of : (past : List (Call Method CallEnd)) (c : Call Method CallEnd) (shown : PeerEvent) (event : CallEvent) → map Asked (shown_of past c) ≡ shown ∷ [] → IsShownAs shown event → Shows event c
+shows_of past (Begun id m) shown event e h = begun_shows id m event (subst (λ (p : PeerEvent). IsShownAs p event) (first_of (Asked (Begun id m)) shown e) h)
+shows_of past (Request id m) shown event e h = request_shows id m event (subst (λ (p : PeerEvent). IsShownAs p event) (first_of (Asked (Request id m)) shown e) h)
+shows_of past (Finished id) shown event e h = finished_shows id event (subst (λ (p : PeerEvent). IsShownAs p event) (first_of (Asked (Finished id)) shown e) h)
+shows_of past (Dropped id) shown event e h = dropped_shows id event (subst (λ (p : PeerEvent). IsShownAs p event) (first_of (Asked (Dropped id)) shown e) h)
+shows_of past (Declined id answer) shown event e h = by (list_any (is_begun_call id) past) e
+  where
+    by : (b : Bool) → map Asked (if b then Dropped id ∷ [] else []) ≡ shown ∷ [] → Shows event (Declined id answer)
+    by true e = declined_shows id answer event (subst (λ (p : PeerEvent). IsShownAs p event) (first_of (Asked (Dropped id)) shown e) h)
+    by false e = absurd cc
+
+not_answered : (cs : List (Call Method CallEnd)) (xs ys : List PeerEvent) (a : _) → map Asked cs ≡ xs ++ Answered a ∷ ys → ⊥
+not_answered [] [] ys a e = cc
+not_answered [] (x ∷ xs) ys a e = cc
+not_answered (c ∷ cs) [] ys a e = cc
+not_answered (c ∷ cs) (x ∷ xs) ys a e = not_answered cs xs ys a (tails e)
+  where
+    tails : {v w : PeerEvent} {l r : List PeerEvent} → v ∷ l ≡ w ∷ r → l ≡ r
+    tails e = cc
+
+-- ---- the calls of a server
+
+module _ (u : CallTrace) (later : List ℕ) (sound : IsSoundCallTrace u later) (is : u.connection_trace.role ≡ Server) where
+  abbrev spelled : List (Call Method CallEnd)
+  spelled = calls (λ fields. method_by (head_of fields)) compressed too_long truncated (events Server u.connection_trace.limits u.connection_trace.heads u.connection_trace.frames)
+
+  all_asked : reported_in u ≡ map Asked spelled
+  all_asked = ap (λ (r : Role). reported_by r u.numbers (record u.connection_trace { role = r })) is
+
+  reported_first : map Asked spelled ≡ u.reported ++ sound.reported.0
+  reported_first = sym all_asked ∙ sound.reported.1
+
+  are_placed : are_in_place (flat_map asked_of u.reported) ≡ true
+  are_placed =
+      let resets : ResetsErrors Server u.connection_trace.limits u.connection_trace.heads u.connection_trace.frames =
+      subst (λ (r : Role). ResetsErrors r u.connection_trace.limits u.connection_trace.heads u.connection_trace.frames) is sound.connection_trace.resets in
+      let split : spelled ≡ flat_map asked_of u.reported ++ flat_map asked_of sound.reported.0 = sym (asked_back spelled) ∙ ap (flat_map asked_of) reported_first ∙ flat_map-append asked_of u.reported sound.reported.0 in
+      front_in_place (flat_map asked_of u.reported) (flat_map asked_of sound.reported.0) (sym (ap are_in_place split)
+      ∙ calls_are_in_place u.connection_trace.limits u.connection_trace.heads u.connection_trace.frames (λ fields. method_by (head_of fields)) compressed too_long truncated resets)
+
+pub comes_next : (s : Setting) (t u : CallTrace) (later : List ℕ) (event : CallEvent) (calls : OpenCallsView) (actions : List Action) (own : List Event) → t.connection_trace.role ≡ Server → IsSoundCallTrace u later →
+    AreHandled s t calls actions own none_left → GivesCallEvent t event u → ComesNext s u event calls own
+comes_next s t u later event calls actions own is sound h gives =
+    let gone : Went t.connection_trace u.connection_trace = went t.connection_trace u.connection_trace gives.tells.goes_on in
+    let server : u.connection_trace.role ≡ Server = gone.role ∙ is in
+    let there : AreHandled s (record t { connection_trace = u.connection_trace }) calls actions own none_left =
+    handled_on s t (record t { connection_trace = u.connection_trace }) calls actions own none_left refl refl gone.frames.0 gone.frames.1 h in
+    let places = are_placed u later sound server in
+    let k = hide s calls own u places gives.hidden (gives.last ∷ []) (record t { connection_trace = u.connection_trace }) actions gives.tells.takes gives.quiet there in
+    by k.0 k.1 k.3 gives.last (one_appended k.0 u gives.last k.2) server places gives.visible
+  where
+    by : (t1 : CallTrace) (actions1 : List Action) → AreHandled s t1 calls actions1 own none_left → (p : PeerEvent) → u ≡ record t1 { reported = t1.reported ++ p ∷ []; taken = t1.taken ++ answer_to t1 p } → u.connection_trace.role ≡ Server →
+        are_in_place (flat_map asked_of u.reported) ≡ true → shown_events_of (t.reported ++ gives.hidden) p ≡ gives.shown ∷ [] → ComesNext s u event calls own
+    by t1 actions1 k (Asked c) told server places visible = record {
+      before = t1;
+      earlier = actions1;
+      handled = k;
+      client_call = c;
+      told = told;
+      shows = shows_of (flat_map asked_of (t.reported ++ gives.hidden)) c gives.shown event visible gives.event_is;
+      place = place_of (calls_in actions1) [] c (calls_then s calls own u places t1 actions1 none_left c [] k (ap (λ (v : CallTrace). v.reported) told));
+    }
+    by t1 actions1 k (Answered a) told server places visible =
+        absurd (not_answered (spelled u later sound server) t1.reported sound.reported.0 a
+        (reported_first u later sound server ∙ ap (λ (v : CallTrace). v.reported ++ sound.reported.0) told ∙ append_assoc t1.reported (Answered a ∷ []) sound.reported.0))
+
+-- ---- nothing more is told
+
+pub comes_none : (s : Setting) (t u : CallTrace) (later : List ℕ) (calls : OpenCallsView) (actions : List Action) (own : List Event) → t.connection_trace.role ≡ Server → IsSoundCallTrace u later →
+    AreHandled s t calls actions own none_left → NeedsMore t u → (now : List Action) × AreHandled s u calls now own none_left × (rest : List ℕ) × IsSettled u rest
+comes_none s t u later calls actions own is sound h needs =
+    let gone : Went t.connection_trace needs.before = went t.connection_trace needs.before needs.tells.goes_on in
+    let last : Went needs.before u.connection_trace = went needs.before u.connection_trace (goes needs.before u.connection_trace u.connection_trace [] needs.waits.goes (stays u.connection_trace)) in
+    let server : u.connection_trace.role ≡ Server = last.role ∙ gone.role ∙ is in
+    let frames_are : u.connection_trace.frames ≡ t.connection_trace.frames ++ (gone.frames.0 ++ last.frames.0) =
+    last.frames.1 ∙ ap (λ (x : List Step). x ++ last.frames.0) gone.frames.1 ∙ append_assoc t.connection_trace.frames gone.frames.0 last.frames.0 in
+    let there : AreHandled s (record t { connection_trace = u.connection_trace }) calls actions own none_left =
+    handled_on s t (record t { connection_trace = u.connection_trace }) calls actions own none_left refl refl (gone.frames.0 ++ last.frames.0) frames_are h in
+    let takes : AppendsPeerEvents (record t { connection_trace = u.connection_trace }) (needs.hidden ++ []) u =
+    subst (λ (l : List PeerEvent). AppendsPeerEvents (record t { connection_trace = u.connection_trace }) l u) (sym (append-nil needs.hidden)) needs.tells.takes in
+    let k = hide s calls own u (are_placed u later sound server) needs.hidden [] (record t { connection_trace = u.connection_trace }) actions takes needs.quiet there in (
+      k.1,
+      subst (λ (v : CallTrace). AreHandled s v calls k.1 own none_left) (sym (nothing_appended k.0 u k.2)) k.3,
+      needs.waits.rest,
+      record {
+        all = needs.reported;
+        alive = ap (λ (c : ConnectionTrace). c.refusal) needs.waits.goes.goes_on;
+        unstopped = needs.waits.unstopped;
+        whole = subst (λ (r : Role). Frames (peer_preface r) u.connection_trace.fed (received u.connection_trace.frames) needs.waits.rest) server needs.waits.whole;
+      },
+    )

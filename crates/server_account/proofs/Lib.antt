@@ -1,0 +1,10 @@
+pub mod Prefixes
+pub mod Resets
+pub mod Serves
+pub mod Quiet
+pub mod Uses
+pub mod Begun
+pub mod Takes
+pub mod Places
+pub mod Hears
+pub mod Events
