@@ -1,5 +1,5 @@
 -- The next event of a server's calls: what is told without being shown is declined, and then comes what is shown.
-use Rattle.std.proofs.Common.{◌≡◌, inl, inr, ℕ, ◌==◌, Bool, true, false, not, List, [], ◌∷◌, ◌++◌, map, Option, Some, None, refl, sym, ap, subst, ◌∙◌, append_assoc, append-nil, eqb-true}
+use Rattle.std.proofs.Common.{◌⊎◌, ◌≡◌, inl, inr, ℕ, ◌==◌, Bool, true, false, not, List, [], ◌∷◌, ◌++◌, map, Option, Some, None, refl, sym, ap, subst, ◌∙◌, append_assoc, append-nil, eqb-true}
 use Rattle.std.specs.Prelude.{if◌then◌else◌}
 use Rattle.std.specs.List.{flat_map, list_any}
 use Rattle.std.proofs.lemmas.List.Concat.{flat_map-append}
@@ -10,18 +10,19 @@ use Rattle.h2_frames.specs.Stream.{Frames}
 use Rattle.h2_exchange.specs.declared.role.Role.{Role}
 use Rattle.h2_exchange.specs.declared.role.Role.TheVariants.{Server}
 use Rattle.h2_exchange.specs.Calls.{Call, Begun, Request, Finished, Dropped, Declined, are_in_place, calls, ends_asking, is_begun_call, shown_of}
-use Rattle.h2_exchange.specs.Exchange.{Step, collect, received}
+use Rattle.h2_exchange.specs.Exchange.{Step, Sent, collect, received}
 use Rattle.h2_exchange.specs.Order.{peer_preface}
 use Rattle.h2_exchange.specs.Sending.{IsPrefix, ResetsErrors}
 use Rattle.h2_exchange.specs.StreamParts.{Item}
-use Rattle.h2_exchange.specs.Stops.{events}
+use Rattle.h2_exchange.specs.Stops.{Stop, events}
 use Rattle.h2_exchange.proofs.Answered.{calls_are_in_place}
 use Rattle.h2_exchange.proofs.Places.{same_self}
-use Rattle.http_connection.specs.ConnectionTrace.{ConnectionTrace}
+use Rattle.http_connection.specs.Answers as conn
+use Rattle.http_connection.specs.ConnectionTrace.{ConnectionTrace, NoMemory}
 use Rattle.grpc_stream.specs.declared.event.CallEvent.{CallEvent}
 use Rattle.grpc_stream.specs.declared.event.CallEvent.TheVariants as says
 use Rattle.grpc_stream.specs.CallTrace.{CallTrace, Answered, Asked, IsSoundCallTrace, PeerEvent, reported_by, reported_in}
-use Rattle.grpc_stream.specs.NextEvent.{AppendsPeerEvents, none, one, AreHidden, GivesCallEvent, GoesOn, stays, goes, IsShownAs, NeedsMore, answer_to, asked_of, shown_events_of}
+use Rattle.grpc_stream.specs.NextEvent.{AppendsPeerEvents, none, one, AreHidden, GivesCallEvent, GoesOn, stays, goes, IsShownAs, NeedsMore, RunsOutOfMemory, Stops, answer_to, asked_of, shown_events_of}
 use Rattle.table_model.specs.Event.{Event}
 use Rattle.call_answers.specs.declared.orders.Setting.{Setting}
 use Rattle.call_orders.specs.Calls.{Action, Handles, NotBegun, Over, Standing, after, not_begun, refusal_for, standing}
@@ -131,7 +132,7 @@ declined_unseen s t calls actions own id answer h at =
 
 -- ---- what is hidden
 
-appended : (more : List PeerEvent) (t u : CallTrace) → AppendsPeerEvents t more u → u.reported ≡ t.reported ++ more
+pub appended : (more : List PeerEvent) (t u : CallTrace) → AppendsPeerEvents t more u → u.reported ≡ t.reported ++ more
 appended [] t u (none _) = sym (append-nil t.reported)
 appended (p ∷ more) t u (one _ _ _ _ h) = appended more (record t { reported = t.reported ++ p ∷ []; taken = t.taken ++ answer_to t p }) u h ∙ append_assoc t.reported (p ∷ []) more
 
@@ -275,21 +276,39 @@ comes_next s t u later event calls actions own is sound h gives =
 
 -- ---- nothing more is told
 
+-- all that is told is hidden, and the connection has gone on to where it is now
+all_hidden : (s : Setting) (t u : CallTrace) (later : List ℕ) (calls : OpenCallsView) (actions : List Action) (own : List Event) (hidden : List PeerEvent) → u.connection_trace.role ≡ Server → IsSoundCallTrace u later →
+    AreHandled s t calls actions own none_left → IsPrefix t.connection_trace.frames u.connection_trace.frames → AreHidden t.reported hidden → AppendsPeerEvents (record t { connection_trace = u.connection_trace }) hidden u →
+    (now : List Action) × AreHandled s u calls now own none_left
+all_hidden s t u later calls actions own hidden is sound h frames quiet takes =
+    let there : AreHandled s (record t { connection_trace = u.connection_trace }) calls actions own none_left =
+    handled_on s t (record t { connection_trace = u.connection_trace }) calls actions own none_left refl refl frames.0 frames.1 h in
+    let takes_on : AppendsPeerEvents (record t { connection_trace = u.connection_trace }) (hidden ++ []) u =
+    subst (λ (l : List PeerEvent). AppendsPeerEvents (record t { connection_trace = u.connection_trace }) l u) (sym (append-nil hidden)) takes in
+    let k = hide s calls own u (are_placed u later sound is) hidden [] (record t { connection_trace = u.connection_trace }) actions takes_on quiet there in
+    (k.1, subst (λ (v : CallTrace). AreHandled s v calls k.1 own none_left) (sym (nothing_appended k.0 u k.2)) k.3)
+
+pub went_then : (c d e : ConnectionTrace) → Went c d → Went d e → Went c e
+went_then c d e p q = record {
+  role = q.role ∙ p.role;
+  limits = q.limits ∙ p.limits;
+  fed = q.fed ∙ p.fed;
+  dropped = q.dropped ∙ p.dropped;
+  frames = (p.frames.0 ++ q.frames.0, q.frames.1 ∙ ap (λ (x : List Step). x ++ q.frames.0) p.frames.1 ∙ append_assoc c.frames p.frames.0 q.frames.0);
+}
+
+gives_none : (c d : ConnectionTrace) → conn.GivesEvents c [] d → Went c d
+gives_none c d h = went c d (goes c d d [] h (stays d))
+
 pub comes_none : (s : Setting) (t u : CallTrace) (later : List ℕ) (calls : OpenCallsView) (actions : List Action) (own : List Event) → t.connection_trace.role ≡ Server → IsSoundCallTrace u later →
     AreHandled s t calls actions own none_left → NeedsMore t u → (now : List Action) × AreHandled s u calls now own none_left × (rest : List ℕ) × IsSettled u rest
 comes_none s t u later calls actions own is sound h needs =
-    let gone : Went t.connection_trace needs.before = went t.connection_trace needs.before needs.tells.goes_on in
-    let last : Went needs.before u.connection_trace = went needs.before u.connection_trace (goes needs.before u.connection_trace u.connection_trace [] needs.waits.goes (stays u.connection_trace)) in
-    let server : u.connection_trace.role ≡ Server = last.role ∙ gone.role ∙ is in
-    let frames_are : u.connection_trace.frames ≡ t.connection_trace.frames ++ (gone.frames.0 ++ last.frames.0) =
-    last.frames.1 ∙ ap (λ (x : List Step). x ++ last.frames.0) gone.frames.1 ∙ append_assoc t.connection_trace.frames gone.frames.0 last.frames.0 in
-    let there : AreHandled s (record t { connection_trace = u.connection_trace }) calls actions own none_left =
-    handled_on s t (record t { connection_trace = u.connection_trace }) calls actions own none_left refl refl (gone.frames.0 ++ last.frames.0) frames_are h in
-    let takes : AppendsPeerEvents (record t { connection_trace = u.connection_trace }) (needs.hidden ++ []) u =
-    subst (λ (l : List PeerEvent). AppendsPeerEvents (record t { connection_trace = u.connection_trace }) l u) (sym (append-nil needs.hidden)) needs.tells.takes in
-    let k = hide s calls own u (are_placed u later sound server) needs.hidden [] (record t { connection_trace = u.connection_trace }) actions takes needs.quiet there in (
+    let gone : Went t.connection_trace u.connection_trace =
+    went_then t.connection_trace needs.before u.connection_trace (went t.connection_trace needs.before needs.tells.goes_on) (gives_none needs.before u.connection_trace needs.waits.goes) in
+    let server : u.connection_trace.role ≡ Server = gone.role ∙ is in
+    let k = all_hidden s t u later calls actions own needs.hidden server sound h gone.frames needs.quiet needs.tells.takes in (
+      k.0,
       k.1,
-      subst (λ (v : CallTrace). AreHandled s v calls k.1 own none_left) (sym (nothing_appended k.0 u k.2)) k.3,
       needs.waits.rest,
       record {
         all = needs.reported;
@@ -298,3 +317,47 @@ comes_none s t u later calls actions own is sound h needs =
         whole = subst (λ (r : Role). Frames (peer_preface r) u.connection_trace.fed (received u.connection_trace.frames) needs.waits.rest) server needs.waits.whole;
       },
     )
+
+-- ---- the connection stops
+
+pub went_stop : (c d : ConnectionTrace) (stop : Stop) → conn.Stops c stop d → Went c d
+went_stop c d stop h =
+    went_then c h.at d (gives_none c h.at h.goes) (record {
+      role = ap (λ (x : ConnectionTrace). x.role) h.ends;
+      limits = ap (λ (x : ConnectionTrace). x.limits) h.ends;
+      fed = ap (λ (x : ConnectionTrace). x.fed) h.ends;
+      dropped = ap (λ (x : ConnectionTrace). x.dropped) h.ends;
+      frames = (Sent h.goaway ∷ [], ap (λ (x : ConnectionTrace). x.frames) h.ends);
+    })
+
+pub comes_stop : (s : Setting) (t u : CallTrace) (later : List ℕ) (stop : Stop) (calls : OpenCallsView) (actions : List Action) (own : List Event) → t.connection_trace.role ≡ Server → IsSoundCallTrace u later →
+    AreHandled s t calls actions own none_left → Stops t stop u → (now : List Action) × AreHandled s u calls now own none_left
+comes_stop s t u later stop calls actions own is sound h stops =
+    let gone : Went t.connection_trace u.connection_trace =
+    went_then t.connection_trace stops.before u.connection_trace (went t.connection_trace stops.before stops.tells.goes_on) (went_stop stops.before u.connection_trace stop stops.stops) in
+    all_hidden s t u later calls actions own stops.hidden (gone.role ∙ is) sound h gone.frames stops.quiet stops.tells.takes
+
+-- ---- memory is wanting
+
+went_out : (c d : ConnectionTrace) → conn.RunsOutOfMemory c d ⊎ (d ≡ record c { refusal = Some NoMemory }) → Went c d
+went_out c d (inl h) = record {
+  role = ap (λ (x : ConnectionTrace). x.role) h.ends;
+  limits = ap (λ (x : ConnectionTrace). x.limits) h.ends;
+  fed = ap (λ (x : ConnectionTrace). x.fed) h.ends;
+  dropped = ap (λ (x : ConnectionTrace). x.dropped) h.ends;
+  frames = (h.more, ap (λ (x : ConnectionTrace). x.frames) h.ends);
+}
+went_out c d (inr same) = record {
+  role = ap (λ (x : ConnectionTrace). x.role) same;
+  limits = ap (λ (x : ConnectionTrace). x.limits) same;
+  fed = ap (λ (x : ConnectionTrace). x.fed) same;
+  dropped = ap (λ (x : ConnectionTrace). x.dropped) same;
+  frames = ([], ap (λ (x : ConnectionTrace). x.frames) same ∙ sym (append-nil c.frames));
+}
+
+pub comes_no_memory : (s : Setting) (t u : CallTrace) (later : List ℕ) (calls : OpenCallsView) (actions : List Action) (own : List Event) → t.connection_trace.role ≡ Server → IsSoundCallTrace u later →
+    AreHandled s t calls actions own none_left → RunsOutOfMemory t u → (now : List Action) × AreHandled s u calls now own none_left
+comes_no_memory s t u later calls actions own is sound h out =
+    let gone : Went t.connection_trace u.connection_trace =
+    went_then t.connection_trace out.before u.connection_trace (went t.connection_trace out.before out.tells.goes_on) (went_out out.before u.connection_trace out.out) in
+    all_hidden s t u later calls actions own out.hidden (gone.role ∙ is) sound h gone.frames out.quiet out.tells.takes

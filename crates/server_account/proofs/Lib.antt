@@ -8,3 +8,8 @@ pub mod Takes
 pub mod Places
 pub mod Hears
 pub mod Events
+pub mod Ends
+pub mod Suits
+pub mod Tells
+pub mod Feeding
+pub mod Pumped

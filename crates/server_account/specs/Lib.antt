@@ -1,3 +1,4 @@
 pub mod Agreeing
 pub mod Hearing
+pub mod Ending
 pub mod Laws
