@@ -300,6 +300,9 @@ went_then c d e p q = record {
 gives_none : (c d : ConnectionTrace) → conn.GivesEvents c [] d → Went c d
 gives_none c d h = went c d (goes c d d [] h (stays d))
 
+pub went_needs : (t u : CallTrace) → NeedsMore t u → Went t.connection_trace u.connection_trace
+went_needs t u needs = went_then t.connection_trace needs.before u.connection_trace (went t.connection_trace needs.before needs.tells.goes_on) (gives_none needs.before u.connection_trace needs.waits.goes)
+
 pub comes_none : (s : Setting) (t u : CallTrace) (later : List ℕ) (calls : OpenCallsView) (actions : List Action) (own : List Event) → t.connection_trace.role ≡ Server → IsSoundCallTrace u later →
     AreHandled s t calls actions own none_left → NeedsMore t u → (now : List Action) × AreHandled s u calls now own none_left × (rest : List ℕ) × IsSettled u rest
 comes_none s t u later calls actions own is sound h needs =
@@ -330,6 +333,9 @@ went_stop c d stop h =
       frames = (Sent h.goaway ∷ [], ap (λ (x : ConnectionTrace). x.frames) h.ends);
     })
 
+pub went_stops : (t u : CallTrace) (stop : Stop) → Stops t stop u → Went t.connection_trace u.connection_trace
+went_stops t u stop stops = went_then t.connection_trace stops.before u.connection_trace (went t.connection_trace stops.before stops.tells.goes_on) (went_stop stops.before u.connection_trace stop stops.stops)
+
 pub comes_stop : (s : Setting) (t u : CallTrace) (later : List ℕ) (stop : Stop) (calls : OpenCallsView) (actions : List Action) (own : List Event) → t.connection_trace.role ≡ Server → IsSoundCallTrace u later →
     AreHandled s t calls actions own none_left → Stops t stop u → (now : List Action) × AreHandled s u calls now own none_left
 comes_stop s t u later stop calls actions own is sound h stops =
@@ -354,6 +360,9 @@ went_out c d (inr same) = record {
   dropped = ap (λ (x : ConnectionTrace). x.dropped) same;
   frames = ([], ap (λ (x : ConnectionTrace). x.frames) same ∙ sym (append-nil c.frames));
 }
+
+pub went_starves : (t u : CallTrace) → RunsOutOfMemory t u → Went t.connection_trace u.connection_trace
+went_starves t u out = went_then t.connection_trace out.before u.connection_trace (went t.connection_trace out.before out.tells.goes_on) (went_out out.before u.connection_trace out.out)
 
 pub comes_no_memory : (s : Setting) (t u : CallTrace) (later : List ℕ) (calls : OpenCallsView) (actions : List Action) (own : List Event) → t.connection_trace.role ≡ Server → IsSoundCallTrace u later →
     AreHandled s t calls actions own none_left → RunsOutOfMemory t u → (now : List Action) × AreHandled s u calls now own none_left

@@ -33,9 +33,8 @@ use Rattle.session_engine.specs.Queries.{OpenCallsView}
 use Rattle.session_engine.specs.Stands.{IsUnended}
 use Rattle.server_turns.specs.declared.outcome.Outcome.{Outcome}
 use Rattle.server_turns.specs.Past.{Past}
-use Rattle.server_turns.specs.Serving.{HasCause, Serves, Unbroken, calls_spelled, end_of, none_asked, reads_all}
+use Rattle.server_turns.specs.Serving.{EndsWhole, HasCause, NoneOpen, Serves, Unbroken, calls_spelled, end_of, none_asked, reads_all}
 use Rattle.server_account.specs.Agreeing.{AreHandled, IsCutOff, IsServer, IsSettled, IsTaken, IsTold, account_of, none_left}
-use Rattle.server_account.specs.Laws.{AgreementServes}
 use Rattle.server_account.proofs.Prefixes.{end_is_owed, first_before_end, first_goes_on, message_before_end, message_first}
 use Rattle.server_account.proofs.Resets.{stays_unclosed, unended_response}
 
@@ -215,7 +214,9 @@ module _ (s : Setting) (t : CallTrace) (output rest : List ℕ) (h : IsServer s 
       whole (inl breaks) = breaks.0 settled.whole.follows
       whole (inr breaks) = not_long rest settled.whole.partial breaks.1
 
-pub agreement_serves : AgreementServes
+pub agreement_serves : (s : Setting) (t : CallTrace) (output rest : List ℕ) (open_calls : OpenCallsView) (past : Past) (actions : List Action) → IsServer s t output → IsTold t past.pieces →
+    AreHandled s t open_calls actions past.own none_left → IsSettled t rest →
+    (past.is_ended ≡ true → EndsWhole s past (account_of t output rest actions) × NoneOpen s past (account_of t output rest actions)) → Serves s past (account_of t output rest actions) None
 agreement_serves s t output rest open_calls past actions h told served settled ended =
     serves_with s t output h past told rest actions None (λ _ _. frames_are s t output rest h past told settled)
     (answers_begin s t output h actions none_left served.taken (λ id. inl refl) served.open_now.unended)

@@ -1,16 +1,128 @@
--- What follows where the parts of a connection agree with an account of it.
-use Rattle.std.specs.Prelude.{◌≡◌, ℕ, true, List, None}
+-- What follows where the parts of a connection agree with an account of it, and how the agreement goes on.
+use Rattle.std.specs.Prelude.{◌≡◌, ◌⊎◌, ℕ, ◌≤◌, false, true, List, [], ◌∷◌, ◌++◌, Option, Some, None}
+use Rattle.std.specs.List.{list_any}
+use Rattle.rig_io.specs.Link as link
+use Rattle.grpc_heads.specs.CallEnd.{CallEnd}
+use Rattle.grpc_heads.specs.declared.head.Method.{Method}
+use Rattle.h2_frames.specs.declared.code.ErrorCode.{ErrorCode}
+use Rattle.h2_exchange.specs.declared.limits.CalmCause.{CalmCause}
+use Rattle.h2_exchange.specs.declared.role.Role.TheVariants.{Server}
+use Rattle.h2_exchange.specs.Calls.{Call, Dropped, Declined, stream_in}
+use Rattle.h2_exchange.specs.Order.{Piece}
+use Rattle.h2_exchange.specs.StreamParts.{Item}
+use Rattle.h2_exchange.specs.Stops.{Stop, Calm, Error}
+use Rattle.h2_exchange.specs.Streams.{is_live, is_reset}
+use Rattle.h2_exchange.specs.Windows.{may_send}
+use Rattle.http_connection.specs.ConnectionTrace.{dropped_more, fed_more, is_alive}
+use Rattle.http_connection.specs.Laws.{SendsIn}
+use Rattle.grpc_stream.specs.declared.event.CallEvent.{CallEvent}
+use Rattle.grpc_stream.specs.CallTrace.{CallTrace, Asked, IsSoundCallTrace, begins_on, changed, is_taking, queued_on, suits, took, waiting_in}
+use Rattle.grpc_stream.specs.NextEvent.{GivesCallEvent, NeedsMore, RunsOutOfMemory, Stops, answer_to}
+use Rattle.grpc_stream.specs.Sends.{Pumps}
+use Rattle.table_model.specs.Event.{Event}
 use Rattle.call_answers.specs.declared.orders.Setting.{Setting}
-use Rattle.call_orders.specs.Calls.{Action}
-use Rattle.grpc_stream.specs.CallTrace.{CallTrace}
+use Rattle.call_orders.specs.Owed.{has_end}
+use Rattle.call_orders.specs.Calls as call
+use Rattle.call_orders.specs.Calls.{Action, Handles, Collects, Continues, Over, refusal_for, standing}
+use Rattle.call_orders.specs.Actions.{events_in}
+use Rattle.call_orders.specs.Orders.{AllHandled, is_stopped}
+use Rattle.session_engine.specs.Laws.{FollowsBy}
 use Rattle.session_engine.specs.Queries.{OpenCallsView}
+use Rattle.server_turns.specs.declared.outcome.Outcome.{Outcome}
+use Rattle.server_turns.specs.declared.outcome.Outcome.TheVariants as over
 use Rattle.server_turns.specs.Past.{Past}
-use Rattle.server_turns.specs.Serving.{EndsWhole, NoneOpen, Serves}
-use Rattle.server_account.specs.Agreeing.{AreHandled, IsServer, IsSettled, IsTold, account_of, none_left}
+use Rattle.server_turns.specs.Serving.{EndsWhole, HasCause, IsAnswered, NoneOpen, Serves, end_of, none_asked}
+use Rattle.server_turns.specs.Turning.{unsent}
+use Rattle.server_account.specs.Agreeing.{Agrees, AreHandled, IsServer, IsSettled, IsTold, account_of, left_on, none_left, told_more}
+use Rattle.server_account.specs.Ending.{AreClosed}
+use Rattle.server_account.specs.Hearing.{ComesNext}
 
 -- A connection whose parts agree with an account, and that has received every whole frame, keeps the promise to its client.
 abbrev pub AgreementServes : Type 0
 AgreementServes = (s : Setting) (t : CallTrace) (output rest : List ℕ) (calls : OpenCallsView) (past : Past) (actions : List Action) →
-    IsServer s t output → IsTold t past.pieces → AreHandled s t calls actions past.own none_left → IsSettled t rest →
+    Agrees s t output calls actions past.pieces past.own none_left → IsSettled t rest →
     (past.is_ended ≡ true → EndsWhole s past (account_of t output rest actions) × NoneOpen s past (account_of t output rest actions)) →
     Serves s past (account_of t output rest actions) None
+
+module _ (s : Setting) (t : CallTrace) (output later : List ℕ) (calls : OpenCallsView) (actions : List Action) (pieces : List Piece) (own : List Event) where
+  -- ---- bytes
+
+  -- A piece that was read is fed, where every whole frame before it was received; a piece of output that was written is dropped; and
+  -- what windows allow is sent.
+  pub record BytesGoOn (left : ℕ → List (Item CallEnd)) (rest : List ℕ) : Type 0 where
+    pub reads : (piece : List ℕ) → Agrees s t output calls actions pieces own left → IsSettled t rest → IsSoundCallTrace (changed (fed_more piece) t) later →
+        Agrees s (changed (fed_more piece) t) later calls actions (pieces ++ link.received piece ∷ []) own left
+    pub writes : (piece : List ℕ) → Agrees s t output calls actions pieces own left → IsSettled t rest → IsSoundCallTrace (changed (dropped_more piece) t) later →
+        Agrees s (changed (dropped_more piece) t) later calls actions (pieces ++ link.sent piece ∷ []) own left × IsSettled (changed (dropped_more piece) t) rest
+    pub pumps : (u : CallTrace) → Agrees s t output calls actions pieces own left → IsSettled t rest → IsSoundCallTrace u later → Pumps t u →
+        Agrees s u later calls actions pieces own left × IsSettled u rest
+
+  -- ---- items
+
+  -- What a call is owed is taken to be sent, one item after another. Where its stream takes no more it was reset, and nothing is left
+  -- to be taken for it.
+  pub record ItemsAreTaken (stream : ℕ) : Type 0 where
+    pub takes : (what : Item CallEnd) (more : List (Item CallEnd)) → Agrees s t output calls actions pieces own (left_on stream (what ∷ more)) →
+        is_taking t stream ≡ true → suits Server what ≡ true → IsSoundCallTrace (took stream what t) later →
+        Agrees s (took stream what t) later calls actions pieces own (left_on stream more)
+    pub refuses : (left : List (Item CallEnd)) → Agrees s t output calls actions pieces own (left_on stream left) → is_taking t stream ≡ false →
+        is_alive t.connection_trace ≡ true → list_any (begins_on stream) t.reported ≡ true → has_end (queued_on t stream) ≡ false →
+        Agrees s t output calls actions pieces own (left_on stream [])
+
+  -- ---- events
+
+  -- What the calls of a server tell next, where what was sent by that may be sent: an event shows the next that a client did; or
+  -- nothing is left to be told, for want of bytes, behind a stop or for want of memory.
+  pub record EventsComeNext (u : CallTrace) : Type 0 where
+    pub shows : (event : CallEvent) → Agrees s t output calls actions pieces own none_left → GivesCallEvent t event u → IsSoundCallTrace u later →
+        ((rest : List ℕ) → SendsIn none_asked rest u.connection_trace) → IsServer s u later × IsTold u pieces × ComesNext s u event calls own
+    pub none : Agrees s t output calls actions pieces own none_left → NeedsMore t u → IsSoundCallTrace u later →
+        ((rest : List ℕ) → SendsIn none_asked rest u.connection_trace) →
+        (now : List Action) × Agrees s u later calls now pieces own none_left × (rest : List ℕ) × IsSettled u rest
+    pub stops : (stop : Stop) → Agrees s t output calls actions pieces own none_left → Stops t stop u → IsSoundCallTrace u later →
+        ((rest : List ℕ) → SendsIn none_asked rest u.connection_trace) → (now : List Action) × Agrees s u later calls now pieces own none_left
+    pub starves : Agrees s t output calls actions pieces own none_left → RunsOutOfMemory t u → IsSoundCallTrace u later →
+        ((rest : List ℕ) → SendsIn none_asked rest u.connection_trace) → (now : List Action) × Agrees s u later calls now pieces own none_left
+
+  -- ---- the end of a turn
+
+  -- Behind a pump a call that waits for no more is answered, unless a window is used up or a side reset its stream; and no more bytes
+  -- wait than streams are owed.
+  pub record PumpsKeepUp (left : ℕ → List (Item CallEnd)) (past : Past) (rest : List ℕ) : Type 0 where
+    pub answered : (u : CallTrace) (id : ℕ) → Agrees s u later calls actions pieces own none_left → Pumps t u → is_alive t.connection_trace ≡ true →
+        call.waiting_in (standing s actions id).state ≡ [] → is_reset u.connection_trace.frames id ≡ false →
+        IsAnswered s past (account_of u later rest actions) id
+        ⊎ ((is_live Server u.connection_trace.frames id ≡ true) × (may_send u.connection_trace.frames id ≡ 0))
+    pub waits : Agrees s t output calls actions pieces own left → waiting_in t ≤ unsent s (account_of t output rest actions)
+
+-- ---- actions
+
+-- One more action of the engine is handled, and what it brings is left to be taken. What is declined is answered by the calls.
+pub record ActionsAreHandled (s : Setting) (t : CallTrace) (calls new : OpenCallsView) (actions : List Action) (own did : List Event) (stream : ℕ) : Type 0 where
+  pub hears : (c : Call Method CallEnd) (items : List (Item CallEnd)) → AreHandled s t calls actions own none_left →
+      (k : FollowsBy s new actions stream (Handles c did) (λ _. items)) → stream_in c ≡ stream → answer_to t (Asked c) ≡ [] → list_any is_stopped did ≡ false →
+      AreHandled s (told_more t c) new (Handles c did k.cut ∷ actions) (own ++ did) (left_on stream items)
+  pub collects : (items : List (Item CallEnd)) → AreHandled s t calls actions own none_left →
+      (k : FollowsBy s new actions stream (Collects stream did) (λ _. items)) → list_any is_stopped did ≡ false →
+      AreHandled s t new (Collects stream did k.cut ∷ actions) (own ++ did) (left_on stream items)
+  pub continues : (items : List (Item CallEnd)) → AreHandled s t calls actions own none_left →
+      (k : FollowsBy s new actions stream (Continues stream) (λ _. items)) → AreHandled s t new (Continues stream k.cut ∷ actions) own (left_on stream items)
+  pub drops : AreHandled s t calls actions own none_left →
+      (k : FollowsBy s new actions stream (Handles (Dropped stream) did) (λ state. refusal_for s state (Dropped stream))) → list_any is_stopped did ≡ false →
+      AreHandled s (told_more t (Dropped stream)) new (Handles (Dropped stream) did k.cut ∷ actions) (own ++ did) none_left
+  pub declines : (answer : CallEnd) → AreHandled s t calls actions own none_left →
+      (k : FollowsBy s new actions stream (Handles (Declined stream answer) did) (λ state. refusal_for s state (Declined stream answer))) →
+      list_any is_stopped did ≡ false → ((standing s actions stream).state ≡ Over → has_end (standing s actions stream).items ≡ true) →
+      AreHandled s (told_more t (Declined stream answer)) new (Handles (Declined stream answer) did k.cut ∷ actions) (own ++ did) none_left
+
+-- ---- ends
+
+-- Where the sessions that stayed have left the promise is kept with its cause: behind the last whole frame, and behind a stop.
+pub record EndsServe (s : Setting) (output : List ℕ) (calls : OpenCallsView) (actions : List Action) (past : Past) (last : List Event) : Type 0 where
+  pub settled : (t : CallTrace) (rest : List ℕ) (outcome : Outcome) → Agrees s t output calls actions past.pieces (events_in actions) none_left → IsSettled t rest →
+      AreClosed actions past.own last → end_of (Some outcome) ≡ AllHandled → HasCause s past (account_of t output rest actions) (Some outcome) →
+      Serves s past (account_of t output rest actions) (Some outcome)
+  pub refused : (t u : CallTrace) (why : ErrorCode) (place : ℕ) → Agrees s u output calls actions past.pieces (events_in actions) none_left → Stops t (Error why place) u →
+      AreClosed actions past.own last → (rest : List ℕ) × Serves s past (account_of u output rest actions) (Some (over.Protocol why place))
+  pub calm : (t u : CallTrace) (rest : List ℕ) (cause : CalmCause) → Agrees s u output calls actions past.pieces (events_in actions) none_left → Stops t (Calm cause) u →
+      AreClosed actions past.own last → Serves s past (account_of u output rest actions) (Some (over.Calm cause))

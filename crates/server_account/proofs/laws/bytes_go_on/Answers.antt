@@ -1,0 +1,28 @@
+use Rattle.server_account.proofs.Feeding.{server_reads}
+use Rattle.server_account.proofs.Uses.{handled_pumps, handled_reads, handled_writes, server_pumps, server_writes, settled_pumps, settled_writes, told_pumps, told_reads, told_writes}
+use Rattle.server_account.proofs.laws.bytes_go_on.Goals as goal
+
+pub returns : goal.returns
+returns c = λ s t output later calls actions pieces own left rest. record {
+  reads = λ piece h settled sound. record {
+    server = server_reads s t output rest h.server settled piece later sound;
+    told = told_reads s t output later piece pieces h.server h.told;
+    handled = handled_reads s t output later piece calls actions own left h.handled;
+  };
+  writes = λ piece h settled sound. (
+    record {
+      server = server_writes s t output later piece sound h.server;
+      told = told_writes s t output later piece pieces h.server h.told;
+      handled = handled_writes s t output later piece calls actions own left h.handled;
+    },
+    settled_writes s t output later piece rest settled,
+  );
+  pumps = λ u h settled sound pumps. (
+    record {
+      server = server_pumps s t u output later h.server pumps sound;
+      told = told_pumps s t u output later h.server pumps sound pieces h.told;
+      handled = handled_pumps s t u output later h.server pumps sound calls actions own left h.handled;
+    },
+    settled_pumps s t u output later h.server pumps sound rest settled,
+  );
+}
