@@ -1,6 +1,7 @@
 -- How a connection ends: the sessions that stayed have left, and the promise holds with its cause.
-use Rattle.std.proofs.Common.{◌≡◌, inl, inr, ℕ, Bool, ◌||◌, true, false, List, [], ◌∷◌, ◌++◌, Option, Some, None, refl, sym, ap, subst, ◌∙◌, append-nil, get_or, arith, ◌<◌}
-use Rattle.std.specs.List.{list_any}
+use Rattle.std.proofs.Common.{◌⊎◌, append_assoc, map, ◌≡◌, inl, inr, ℕ, Bool, ◌||◌, true, false, List, [], ◌∷◌, ◌++◌, Option, Some, None, refl, sym, ap, subst, ◌∙◌, append-nil, get_or, arith, ◌<◌}
+use Rattle.std.proofs.lemmas.List.Concat.{flat_map-append}
+use Rattle.std.specs.List.{flat_map, list_any}
 use Rattle.std.proofs.lemmas.List.Folds.{list_any-append}
 use Rattle.h2_frames.specs.declared.code.ErrorCode.{ErrorCode}
 use Rattle.h2_frames.specs.declared.frame.Frame.{Frame}
@@ -20,22 +21,28 @@ use Rattle.h2_exchange.proofs.Staying.{stops_stay}
 use Rattle.h2_exchange.proofs.Steps.{received_sent, sent_push}
 use Rattle.http_connection.specs.Answers as conn
 use Rattle.http_connection.specs.ConnectionTrace.{ConnectionTrace, stop_in}
-use Rattle.grpc_stream.specs.CallTrace.{CallTrace, reported_in}
-use Rattle.grpc_stream.specs.NextEvent.{Stops}
+use Rattle.grpc_stream.specs.CallTrace.{CallTrace, Asked, queued_on, reported_in}
+use Rattle.grpc_stream.specs.NextEvent.{asked_of, Stops}
 use Rattle.table_model.specs.Event.{Event}
+use Rattle.grpc_heads.specs.CallEnd.{CallEnd}
+use Rattle.h2_exchange.specs.Calls.{Call}
+use Rattle.grpc_heads.specs.declared.head.Method.{Method}
+use Rattle.h2_exchange.specs.StreamParts.{Item}
 use Rattle.call_answers.specs.declared.orders.Setting.{Setting}
-use Rattle.call_orders.specs.Calls.{Action}
-use Rattle.call_orders.specs.Actions.{calls_in, events_in}
-use Rattle.call_orders.specs.Orders.{AllHandled, AreOrders}
+use Rattle.call_orders.specs.Calls.{Action, standing}
+use Rattle.call_orders.specs.Owed.{has_end}
+use Rattle.call_orders.specs.Actions.{AreActions, calls_in, events_in}
+use Rattle.call_orders.specs.Orders.{AllHandled, AreOrders, IsOver}
 use Rattle.session_engine.specs.Queries.{OpenCallsView}
+use Rattle.session_engine.specs.Stands.{IsUnended}
 use Rattle.server_turns.specs.declared.outcome.Outcome.{Outcome}
 use Rattle.server_turns.specs.declared.outcome.Outcome.TheVariants as over
 use Rattle.server_turns.specs.Past.{Past}
-use Rattle.server_turns.specs.Serving.{HasCause, Serves, calls_spelled, end_of}
-use Rattle.server_account.specs.Agreeing.{AreHandled, IsServer, IsSettled, IsTold, account_of, none_left}
+use Rattle.server_turns.specs.Serving.{HasCause, Serves, calls_spelled, end_of, reads_all}
+use Rattle.server_account.specs.Agreeing.{AreHandled, IsServer, IsSettled, IsTaken, IsTold, account_of, none_left}
 use Rattle.server_account.specs.Ending.{AreClosed}
 use Rattle.server_account.proofs.Quiet.{stays_clear}
-use Rattle.server_account.proofs.Serves.{all_handled, answers_begin, frames_are, serves_with}
+use Rattle.server_account.proofs.Serves.{all_handled, answers_begin, asked_back, frames_are, reported_as, serves_with}
 
 -- ---- all that clients did was handled
 
@@ -191,3 +198,28 @@ calm_serves s t u output rest cause open_calls actions past last h told stops se
     (answers_begin s u output h actions none_left served.taken (λ id. inl refl) served.open_now.unended)
     (orders_close s u output rest h open_calls actions past last served stops.reported closed)
     (calm, goes_away s u output h c (Calm cause) stops.stops)
+
+-- ---- a connection that leaves something unread
+
+pub unread_serves : (s : Setting) (t : CallTrace) (output rest : List ℕ) (actions : List Action) (past : Past) (next : List (Call Method CallEnd)) (last : List Event) (left : ℕ → List (Item CallEnd)) (outcome : Outcome) →
+    IsServer s t output → IsTold t past.pieces → AreActions s actions → ((id : ℕ) → IsUnended (standing s actions id)) → t.reported ≡ map Asked (calls_in actions ++ next) →
+    ((id : ℕ) → IsTaken t id (standing s actions id).items (left id)) → ((id : ℕ) → (left id ≡ []) ⊎ (has_end (queued_on t id) ≡ false)) → past.own ≡ events_in actions ++ last →
+    ((others : List (Call Method CallEnd)) → IsOver s (end_of (Some outcome)) actions (next ++ others) last) → reads_all (Some outcome) ≡ false → HasCause s past (account_of t output rest actions) (Some outcome) →
+    Serves s past (account_of t output rest actions) (Some outcome)
+unread_serves s t output rest actions past next last left outcome h told each unended reported taken behind did over unread cause =
+    let others : List (Call Method CallEnd) = flat_map asked_of h.sound.reported.0 in
+    serves_with s t output h past told rest actions (Some outcome) (λ all. never all)
+    (answers_begin s t output h actions left taken behind unended)
+    (record {
+      each = each;
+      rest = next ++ others;
+      last = last;
+      handled = sym (asked_back (calls_spelled (account_of t output rest actions))) ∙ ap (flat_map asked_of) (sym (reported_as t h.role) ∙ h.sound.reported.1)
+          ∙ flat_map-append asked_of t.reported h.sound.reported.0 ∙ ap (λ (l : List (Call Method CallEnd)). l ++ others) (ap (flat_map asked_of) reported ∙ asked_back (calls_in actions ++ next))
+          ∙ append_assoc (calls_in actions) next others;
+      did = did;
+      over = over others;
+    }) cause
+  where
+    never : {A : Type 0} → reads_all (Some outcome) ≡ true → A
+    never all = let wrong : true ≡ false = sym all ∙ unread in absurd cc

@@ -64,7 +64,7 @@ went c e (goes _ d _ es now later) =
 -- ---- a call that is declined unseen
 
 module _ (s : Setting) where
-  not_open_call : (c : OpenCall) → NotBegun ≡ state_of s c → ⊥
+  pub not_open_call : (c : OpenCall) → NotBegun ≡ state_of s c → ⊥
   not_open_call (opened.Modifies session is_finished) e = cc
   not_open_call (opened.Receives method first is_more) e = cc
   not_open_call (opened.Responds rows) e = cc

@@ -13,3 +13,7 @@ pub mod Suits
 pub mod Tells
 pub mod Feeding
 pub mod Pumped
+pub mod Starts
+pub mod Credits
+pub mod Begins
+pub mod Cuts

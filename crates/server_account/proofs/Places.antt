@@ -24,7 +24,7 @@ on id c = stream_in c == id
 abbrev bad : calls → Call Method CallEnd → Bool
 bad past c = not (is_in_place past c)
 
-not_false : (b : Bool) → not b ≡ true → b ≡ false
+pub not_false : (b : Bool) → not b ≡ true → b ≡ false
 not_false true e = absurd cc
 not_false false e = refl
 

@@ -47,7 +47,7 @@ ended_push id past f =
 
 -- ---- frames of no stream's content
 
-abbrev is_part : Frame → Bool
+abbrev pub is_part : Frame → Bool
 is_part f = is_data f || is_headers f || is_continuation f
 
 abbrev is_part_type : ℕ → Bool
@@ -110,7 +110,7 @@ none_either : (t : Bool) (o : Option Block) → o ≡ None → (if t then o else
 none_either true o e = e
 none_either false o e = refl
 
-other_ends_none : (id : ℕ) (past : List Frame) (f : Frame) → is_part f ≡ false → ends_now id past f ≡ false
+pub other_ends_none : (id : ℕ) (past : List Frame) (f : Frame) → is_part f ≡ false → ends_now id past f ≡ false
 other_ends_none id past f e =
     neither (ends_data id f) (list_any (is_last_on id) (option_to_list (completed past f)))
     (ap (λ (b : Bool). b && has_end_stream f && stream_of f == id) (or_parts (is_data f) (is_headers f) (or_parts (is_data f || is_headers f) (is_continuation f) e).0).0)

@@ -174,7 +174,7 @@ asked_back (c ∷ cs) = ap (λ (l : List (Call Method CallEnd)). c ∷ l) (asked
 pub same_asked : (cs ds : List (Call Method CallEnd)) → map Asked cs ≡ map Asked ds → cs ≡ ds
 same_asked cs ds e = sym (asked_back cs) ∙ ap (flat_map asked_of) e ∙ asked_back ds
 
-reported_as : (t : CallTrace) → t.connection_trace.role ≡ Server →
+pub reported_as : (t : CallTrace) → t.connection_trace.role ≡ Server →
     reported_in t ≡ map Asked (calls (λ fields. method_by (head_of fields)) compressed too_long truncated (events Server t.connection_trace.limits t.connection_trace.heads t.connection_trace.frames))
 reported_as t is = ap (λ (r : Role). reported_by r t.numbers (record t.connection_trace { role = r })) is
 

@@ -24,7 +24,7 @@ use Rattle.server_account.specs.Agreeing.{IsServer, IsTold}
 use Rattle.server_account.proofs.Events.{Went, appended}
 use Rattle.server_account.proofs.Suits.{Each, each_behind, reported_each, suited_appends}
 
-first_more : (text : List ℕ) (x more : List Step) → IsPrefix text (sent_text x) → IsPrefix text (sent_text (x ++ more))
+pub first_more : (text : List ℕ) (x more : List Step) → IsPrefix text (sent_text x) → IsPrefix text (sent_text (x ++ more))
 first_more text x more (behind, all) = (
   behind ++ sent_text more,
   ap (flat_map frame_text) (sent_more x more) ∙ flat_map-append frame_text (sent x) (sent more) ∙ ap (λ (l : List ℕ). l ++ sent_text more) all ∙ append_assoc text behind (sent_text more),

@@ -26,6 +26,7 @@ use Rattle.h2_exchange.proofs.Ordering.{order_more, order_told}
 use Rattle.h2_exchange.proofs.Steps.{received_more, sent_more}
 use Rattle.http_connection.specs.ConnectionTrace.{ConnectionTrace, dropped_more, events_in, fed_more, wrote}
 use Rattle.http_connection.specs.Laws.{SendsIn}
+use Rattle.http_connection.proofs.Unheard.{none_received}
 use Rattle.grpc_stream.specs.CallTrace.{CallTrace, Answered, Asked, IsSoundCallTrace, changed, queued_on, reported_by}
 use Rattle.grpc_stream.specs.Sends.{AreCarried, IsCarried, Pumps}
 use Rattle.grpc_stream.proofs.Sending.{pumps_send}
@@ -126,11 +127,7 @@ module _ (s : Setting) (t : CallTrace) (output later piece : List ℕ) where
 text_grows : (x : List Step) (fs : List Frame) → sent_text (x ++ map Sent fs) ≡ sent_text x ++ sent_text (map Sent fs)
 text_grows x fs = ap (flat_map frame_text) (sent_more x (map Sent fs)) ∙ flat_map-append frame_text (sent x) (sent (map Sent fs))
 
-none_received : (fs : List Frame) → received (map Sent fs) ≡ []
-none_received [] = refl
-none_received (f ∷ fs) = none_received fs
-
-received_same : (x : List Step) (fs : List Frame) → received (x ++ map Sent fs) ≡ received x
+pub received_same : (x : List Step) (fs : List Frame) → received (x ++ map Sent fs) ≡ received x
 received_same x fs = received_more x (map Sent fs) ∙ ap (λ (l : List Frame). received x ++ l) (none_received fs) ∙ append-nil (received x)
 
 first_stays : (text : List ℕ) (x : List Step) (fs : List Frame) → IsPrefix text (sent_text x) → IsPrefix text (sent_text (x ++ map Sent fs))

@@ -105,8 +105,8 @@ pub record IsSettled (t : CallTrace) (rest : List ℕ) : Type 0 where
   pub whole : Frames (peer_preface Server) t.connection_trace.fed (received t.connection_trace.frames) rest
 
 -- The parts of a connection agree with an account of it, but for what is left to be taken on each stream.
-pub record Agrees (s : Setting) (t : CallTrace) (output : List ℕ) (calls : OpenCallsView) (actions : List Action) (pieces : List Piece) (own : List Event) (left : ℕ
-    → List (Item CallEnd)) : Type 0 where
+pub record Agrees (s : Setting) (t : CallTrace) (output : List ℕ) (calls : OpenCallsView) (actions : List Action) (pieces : List Piece)
+    (own : List Event) (left : ℕ → List (Item CallEnd)) : Type 0 where
   pub server : IsServer s t output
   pub told : IsTold t pieces
   pub handled : AreHandled s t calls actions own left

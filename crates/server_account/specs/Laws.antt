@@ -1,22 +1,27 @@
 -- What follows where the parts of a connection agree with an account of it, and how the agreement goes on.
-use Rattle.std.specs.Prelude.{◌≡◌, ◌⊎◌, ℕ, ◌≤◌, false, true, List, [], ◌∷◌, ◌++◌, Option, Some, None}
-use Rattle.std.specs.List.{list_any}
+use Rattle.std.specs.Prelude.{◌≡◌, ◌⊎◌, ℕ, ◌≤◌, Bool, false, true, map, length, List, [], ◌∷◌, ◌++◌, Some, None}
+use Rattle.std.specs.List.{flat_map, list_any}
 use Rattle.rig_io.specs.Link as link
 use Rattle.grpc_heads.specs.CallEnd.{CallEnd}
 use Rattle.grpc_heads.specs.declared.head.Method.{Method}
 use Rattle.h2_frames.specs.declared.code.ErrorCode.{ErrorCode}
+use Rattle.h2_frames.specs.declared.frame.Frame.{Frame}
+use Rattle.h2_frames.specs.Layout.{frame_text}
+use Rattle.h2_exchange.specs.declared.limits.H2Limits.{H2Limits}
+use Rattle.h2_exchange.specs.Sending.{first_text}
 use Rattle.h2_exchange.specs.declared.limits.CalmCause.{CalmCause}
 use Rattle.h2_exchange.specs.declared.role.Role.TheVariants.{Server}
-use Rattle.h2_exchange.specs.Calls.{Call, Dropped, Declined, stream_in}
+use Rattle.h2_exchange.specs.Calls.{Call, Begun, Dropped, Declined, is_in_place, stream_in}
 use Rattle.h2_exchange.specs.Order.{Piece}
 use Rattle.h2_exchange.specs.StreamParts.{Item}
 use Rattle.h2_exchange.specs.Stops.{Stop, Calm, Error}
 use Rattle.h2_exchange.specs.Streams.{is_live, is_reset}
 use Rattle.h2_exchange.specs.Windows.{may_send}
-use Rattle.http_connection.specs.ConnectionTrace.{dropped_more, fed_more, is_alive}
+use Rattle.http_connection.specs.ConnectionTrace.{begun, dropped_more, fed_more, held, is_alive, wrote}
 use Rattle.http_connection.specs.Laws.{SendsIn}
+use Rattle.http_connection.specs.Sends.{CarryCredit}
 use Rattle.grpc_stream.specs.declared.event.CallEvent.{CallEvent}
-use Rattle.grpc_stream.specs.CallTrace.{CallTrace, Asked, IsSoundCallTrace, begins_on, changed, is_taking, queued_on, suits, took, waiting_in}
+use Rattle.grpc_stream.specs.CallTrace.{CallTrace, Asked, IsSoundCallTrace, begins_on, changed, fresh, is_taking, queued_on, suits, took, waiting_in}
 use Rattle.grpc_stream.specs.NextEvent.{GivesCallEvent, NeedsMore, RunsOutOfMemory, Stops, answer_to}
 use Rattle.grpc_stream.specs.Sends.{Pumps}
 use Rattle.table_model.specs.Event.{Event}
@@ -24,16 +29,17 @@ use Rattle.call_answers.specs.declared.orders.Setting.{Setting}
 use Rattle.call_orders.specs.Owed.{has_end}
 use Rattle.call_orders.specs.Calls as call
 use Rattle.call_orders.specs.Calls.{Action, Handles, Collects, Continues, Over, refusal_for, standing}
-use Rattle.call_orders.specs.Actions.{events_in}
-use Rattle.call_orders.specs.Orders.{AllHandled, is_stopped}
+use Rattle.call_orders.specs.Actions.{AreActions, calls_in, events_in}
+use Rattle.call_orders.specs.Orders.{AllHandled, IsOver, cuts, is_stopped}
 use Rattle.session_engine.specs.Laws.{FollowsBy}
-use Rattle.session_engine.specs.Queries.{OpenCallsView}
+use Rattle.session_engine.specs.Queries.{OpenCallsView, call_on}
+use Rattle.session_engine.specs.Stands.{IsNotBegun, IsUnended}
 use Rattle.server_turns.specs.declared.outcome.Outcome.{Outcome}
 use Rattle.server_turns.specs.declared.outcome.Outcome.TheVariants as over
 use Rattle.server_turns.specs.Past.{Past}
-use Rattle.server_turns.specs.Serving.{EndsWhole, HasCause, IsAnswered, NoneOpen, Serves, end_of, none_asked}
+use Rattle.server_turns.specs.Serving.{EndsWhole, HasCause, IsAnswered, IsServerLimits, NoneOpen, Serves, end_of, none_asked, reads_all, refused_in}
 use Rattle.server_turns.specs.Turning.{unsent}
-use Rattle.server_account.specs.Agreeing.{Agrees, AreHandled, IsServer, IsSettled, IsTold, account_of, left_on, none_left, told_more}
+use Rattle.server_account.specs.Agreeing.{Agrees, AreHandled, IsServer, IsSettled, IsTaken, IsTold, account_of, left_on, none_left, told_more}
 use Rattle.server_account.specs.Ending.{AreClosed}
 use Rattle.server_account.specs.Hearing.{ComesNext}
 
@@ -44,18 +50,31 @@ AgreementServes = (s : Setting) (t : CallTrace) (output rest : List ℕ) (calls 
     (past.is_ended ≡ true → EndsWhole s past (account_of t output rest actions) × NoneOpen s past (account_of t output rest actions)) →
     Serves s past (account_of t output rest actions) None
 
+-- A new connection of a server's agrees with an account in which nothing was done.
+abbrev pub ConnectionStarts : Type 0
+ConnectionStarts = (s : Setting) (limits : H2Limits) (first : List Frame) (output : List ℕ) (calls : OpenCallsView) →
+    IsServerLimits limits → flat_map frame_text first ≡ first_text Server limits → IsSoundCallTrace (fresh (begun Server limits first) s.numbering) output →
+    ((id : ℕ) → call_on calls id ≡ None) →
+    Agrees s (fresh (begun Server limits first) s.numbering) output calls [] [] [] none_left × IsSettled (fresh (begun Server limits first) s.numbering) []
+
 module _ (s : Setting) (t : CallTrace) (output later : List ℕ) (calls : OpenCallsView) (actions : List Action) (pieces : List Piece) (own : List Event) where
   -- ---- bytes
 
   -- A piece that was read is fed, where every whole frame before it was received; a piece of output that was written is dropped; and
-  -- what windows allow is sent.
+  -- what windows allow is sent, and credit where a hold ends.
   pub record BytesGoOn (left : ℕ → List (Item CallEnd)) (rest : List ℕ) : Type 0 where
     pub reads : (piece : List ℕ) → Agrees s t output calls actions pieces own left → IsSettled t rest → IsSoundCallTrace (changed (fed_more piece) t) later →
         Agrees s (changed (fed_more piece) t) later calls actions (pieces ++ link.received piece ∷ []) own left
-    pub writes : (piece : List ℕ) → Agrees s t output calls actions pieces own left → IsSettled t rest → IsSoundCallTrace (changed (dropped_more piece) t) later →
-        Agrees s (changed (dropped_more piece) t) later calls actions (pieces ++ link.sent piece ∷ []) own left × IsSettled (changed (dropped_more piece) t) rest
+    pub writes : (piece : List ℕ) → Agrees s t output calls actions pieces own left → IsSettled t rest →
+        IsSoundCallTrace (changed (dropped_more piece) t) later →
+        Agrees s (changed (dropped_more piece) t) later calls actions (pieces ++ link.sent piece ∷ []) own left
+        × IsSettled (changed (dropped_more piece) t) rest
     pub pumps : (u : CallTrace) → Agrees s t output calls actions pieces own left → IsSettled t rest → IsSoundCallTrace u later → Pumps t u →
         Agrees s u later calls actions pieces own left × IsSettled u rest
+    pub credits : (hold : Bool) (fs : List Frame) → Agrees s t output calls actions pieces own left → IsSettled t rest →
+        CarryCredit hold t.connection_trace fs →
+        IsSoundCallTrace (changed (λ c. held hold (wrote fs [] c)) t) later →
+        Agrees s (changed (λ c. held hold (wrote fs [] c)) t) later calls actions pieces own left × IsSettled (changed (λ c. held hold (wrote fs [] c)) t) rest
 
   -- ---- items
 
@@ -97,8 +116,16 @@ module _ (s : Setting) (t : CallTrace) (output later : List ℕ) (calls : OpenCa
 
 -- ---- actions
 
+-- A call that begins was not heard of before, and the engine has none open on its stream.
+abbrev pub CallsBegin : Type 0
+CallsBegin = (s : Setting) (t : CallTrace) (calls : OpenCallsView) (actions : List Action) (own : List Event)
+    (left : ℕ → List (Item CallEnd)) (id : ℕ) (method : Method) →
+    AreHandled s t calls actions own left → is_in_place (calls_in actions) (Begun id method) ≡ true →
+    (call_on calls id ≡ None) × IsNotBegun (standing s actions id).state
+
 -- One more action of the engine is handled, and what it brings is left to be taken. What is declined is answered by the calls.
-pub record ActionsAreHandled (s : Setting) (t : CallTrace) (calls new : OpenCallsView) (actions : List Action) (own did : List Event) (stream : ℕ) : Type 0 where
+pub record ActionsAreHandled (s : Setting) (t : CallTrace) (calls new : OpenCallsView) (actions : List Action) (own did : List Event)
+    (stream : ℕ) : Type 0 where
   pub hears : (c : Call Method CallEnd) (items : List (Item CallEnd)) → AreHandled s t calls actions own none_left →
       (k : FollowsBy s new actions stream (Handles c did) (λ _. items)) → stream_in c ≡ stream → answer_to t (Asked c) ≡ [] → list_any is_stopped did ≡ false →
       AreHandled s (told_more t c) new (Handles c did k.cut ∷ actions) (own ++ did) (left_on stream items)
@@ -115,14 +142,28 @@ pub record ActionsAreHandled (s : Setting) (t : CallTrace) (calls new : OpenCall
       list_any is_stopped did ≡ false → ((standing s actions stream).state ≡ Over → has_end (standing s actions stream).items ≡ true) →
       AreHandled s (told_more t (Declined stream answer)) new (Handles (Declined stream answer) did k.cut ∷ actions) (own ++ did) none_left
 
+-- Each call that was cut for want of memory is among those that were ended so.
+abbrev pub CutsAreCounted : Type 0
+CutsAreCounted = (s : Setting) (actions : List Action) → AreActions s actions → length (cuts actions) ≤ refused_in s actions
+
 -- ---- ends
 
 -- Where the sessions that stayed have left the promise is kept with its cause: behind the last whole frame, and behind a stop.
 pub record EndsServe (s : Setting) (output : List ℕ) (calls : OpenCallsView) (actions : List Action) (past : Past) (last : List Event) : Type 0 where
-  pub settled : (t : CallTrace) (rest : List ℕ) (outcome : Outcome) → Agrees s t output calls actions past.pieces (events_in actions) none_left → IsSettled t rest →
+  pub settled : (t : CallTrace) (rest : List ℕ) (outcome : Outcome) → Agrees s t output calls actions past.pieces (events_in actions) none_left →
+      IsSettled t rest →
       AreClosed actions past.own last → end_of (Some outcome) ≡ AllHandled → HasCause s past (account_of t output rest actions) (Some outcome) →
       Serves s past (account_of t output rest actions) (Some outcome)
-  pub refused : (t u : CallTrace) (why : ErrorCode) (place : ℕ) → Agrees s u output calls actions past.pieces (events_in actions) none_left → Stops t (Error why place) u →
+  pub refused : (t u : CallTrace) (why : ErrorCode) (place : ℕ) → Agrees s u output calls actions past.pieces (events_in actions) none_left →
+      Stops t (Error why place) u →
       AreClosed actions past.own last → (rest : List ℕ) × Serves s past (account_of u output rest actions) (Some (over.Protocol why place))
-  pub calm : (t u : CallTrace) (rest : List ℕ) (cause : CalmCause) → Agrees s u output calls actions past.pieces (events_in actions) none_left → Stops t (Calm cause) u →
+  pub calm : (t u : CallTrace) (rest : List ℕ) (cause : CalmCause) → Agrees s u output calls actions past.pieces (events_in actions) none_left →
+      Stops t (Calm cause) u →
       AreClosed actions past.own last → Serves s past (account_of u output rest actions) (Some (over.Calm cause))
+  -- One that halts, is Spent or has no memory leaves the calls behind these unread: a next one of which part was done, or none.
+  pub unread : (t : CallTrace) (rest : List ℕ) (next : List (Call Method CallEnd)) (left : ℕ → List (Item CallEnd)) (outcome : Outcome) →
+      IsServer s t output → IsTold t past.pieces → AreActions s actions → ((id : ℕ) → IsUnended (standing s actions id)) →
+      t.reported ≡ map Asked (calls_in actions ++ next) → ((id : ℕ) → IsTaken t id (standing s actions id).items (left id)) →
+      ((id : ℕ) → (left id ≡ []) ⊎ (has_end (queued_on t id) ≡ false)) → past.own ≡ events_in actions ++ last →
+      ((others : List (Call Method CallEnd)) → IsOver s (end_of (Some outcome)) actions (next ++ others) last) → reads_all (Some outcome) ≡ false →
+      HasCause s past (account_of t output rest actions) (Some outcome) → Serves s past (account_of t output rest actions) (Some outcome)

@@ -1,9 +1,10 @@
 -- What a connection did with all that its link told: the commands that its bytes spell stand in the history of the table once, in
 -- order, and the bytes that it wrote spell on each stream a first part of what they are owed.
-use Rattle.std.specs.Prelude.{◌≡◌, ℕ, ◌<◌, Bool, true, false, length, List, [], ◌∷◌, Option, Some, None}
+use Rattle.std.specs.Prelude.{◌≡◌, ℕ, ◌+◌, ◌<◌, ◌==◌, ◌&&◌, Bool, true, false, not, if◌then◌else◌, length, List, [], ◌∷◌, Option, Some, None}
 use Rattle.std.specs.List.{flat_map, list_any}
+use Rattle.std.specs.Str.{bytes_eq}
 use Rattle.grpc_heads.specs.declared.head.Method.{Method}
-use Rattle.grpc_heads.specs.CallEnd.{CallEnd, call_end_of, compressed, method_by, too_long, truncated}
+use Rattle.grpc_heads.specs.CallEnd.{CallEnd, Status, call_end_of, compressed, method_by, too_long, truncated}
 use Rattle.grpc_heads.specs.Heads.{head_of}
 use Rattle.grpc_heads.specs.Written.{response_fields}
 use Rattle.grpc_stream.specs.CallTrace.{text_of}
@@ -20,13 +21,14 @@ use Rattle.h2_exchange.specs.Order.{peer_preface, received_bytes, RestBreaks}
 use Rattle.h2_exchange.specs.Outcomes.{IsReadExchange}
 use Rattle.h2_exchange.specs.Outgoing.{BeginsFirst, SendsOnly}
 use Rattle.h2_exchange.specs.Sending.{ResetsErrors}
-use Rattle.h2_exchange.specs.StreamParts.{AnswersAre, AnswersBegin}
+use Rattle.h2_exchange.specs.StreamParts.{AnswersAre, AnswersBegin, Item, Finish}
 use Rattle.h2_exchange.specs.Stops.{events, stop_of, IsBroken, IsCalm}
 use Rattle.h2_exchange.specs.Streams.{is_open, is_reset}
 use Rattle.h2_exchange.specs.Windows.{may_send, spent_on}
 use Rattle.table_model.specs.Event.{Event}
 use Rattle.call_answers.specs.declared.orders.Setting.{Setting}
-use Rattle.call_orders.specs.Calls.{CallState, Modifies, Receives, Responds, Action, Collects, answers, standing}
+use Rattle.call_orders.specs.Calls.{CallState, Modifies, Receives, Responds, Action, Collects, Standing, answers, standing, stream_of}
+use Rattle.call_orders.specs.Owed.{want_of_memory}
 use Rattle.call_orders.specs.Orders.{AreOrders, ConnectionEnd, GoesOn, AllHandled, Halted, NoMemory, Spent}
 use Rattle.server_turns.specs.declared.outcome.Outcome.{Outcome}
 use Rattle.server_turns.specs.declared.outcome.Outcome.TheVariants as over
@@ -53,6 +55,23 @@ pub record Account : Type 0 where
 -- what the clients of a connection did, as its frames spell it
 abbrev pub calls_spelled : Account → List (Call Method CallEnd)
 calls_spelled a = calls (λ fields. method_by (head_of fields)) compressed too_long truncated (events Server a.limits a.heads a.frames)
+
+-- ---- want of memory
+
+abbrev pub is_want_of_memory : Item CallEnd → Bool
+is_want_of_memory (Finish (Status status)) = status.code == want_of_memory.code && bytes_eq status.message want_of_memory.message
+is_want_of_memory other = false
+
+-- a call was ended for want of memory, of the table or above it
+abbrev pub wants_memory : Standing → Bool
+wants_memory st = list_any is_want_of_memory st.items
+
+-- how many calls were
+unfoldable pub refused_in : Setting → List Action → ℕ
+refused_in s [] = 0
+refused_in s (a ∷ earlier) =
+    refused_in s earlier
+    + (if wants_memory (standing s (a ∷ earlier) (stream_of a)) && not (wants_memory (standing s earlier (stream_of a))) then 1 else 0)
 
 -- ---- how a connection ends
 

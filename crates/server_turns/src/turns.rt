@@ -1,13 +1,12 @@
 //! A connection that is served turn by turn, and the run of its turns to the end.
-ghost use Rattle.std.specs.Prelude.{◌≡◌, ℕ, ◌++◌, ◌^◌, ◌-◌, min, length, Option, Some, None};
+ghost use Rattle.std.specs.Prelude.{◌≡◌, ℕ, ◌++◌, ◌^◌, ◌-◌, min, Option, Some, None};
 ghost use Rattle.std.specs.Option.{option_map};
 ghost use Rattle.rig_io.specs.Fault.{HasCause, StaysUnless};
 ghost use Rattle.call_answers.specs.declared.orders.Setting.{Setting as SettingView};
-ghost use Rattle.call_orders.specs.Orders.{cuts};
 ghost use Rattle.table_lock.specs.Passes.{IsPassOf, IsSound};
 ghost use Rattle.server_turns.specs.Making.{Makes};
 ghost use Rattle.server_turns.specs.Past.{Past, nothing};
-ghost use Rattle.server_turns.specs.Serving.{Account, Serves};
+ghost use Rattle.server_turns.specs.Serving.{Account, Serves, refused_in};
 ghost use Rattle.server_turns.specs.Turning.{Counts, During, GoesOn, IsAnswer, IsFault, KeepsUpUnlessOver, behind, is_spent, outcome_of};
 ghost use Rattle.server_turns.specs.declared.outcome.Outcome.{Outcome as OutcomeView};
 
@@ -27,10 +26,10 @@ pub trait ServedByTurns: Drop {
     /// How many bytes of answers no frame holds yet.
     ghost waiting: { Self → ℕ };
 
-    /// How many calls were ended for want of memory, at most 2^64 - 1.
+    /// How many calls were ended for want of memory, of the table or above it, at most 2^64 - 1.
     fn refused_calls(&self) -> u64
         ensures { (s : SettingView) (past : Past) (a : Account) (outcome : Option OutcomeView) → stands self.now s past a outcome →
-            result ≡ min (length (cuts a.actions)) (2 ^ 64 - 1) };
+            result ≡ min (refused_in s a.actions) (2 ^ 64 - 1) };
 
     /// Reads some, does what was asked, and writes what may be written. It waits for nothing but the lock. A connection that is
     /// over gives its outcome again. Of a link that tells no pieces only this is said: there are some that it served so.

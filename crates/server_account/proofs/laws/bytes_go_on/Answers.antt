@@ -1,3 +1,5 @@
+use Rattle.std.proofs.Common.{ap, is_some, not}
+use Rattle.server_account.proofs.Credits.{handled_credits, server_credits, settled_credits, told_credits}
 use Rattle.server_account.proofs.Feeding.{server_reads}
 use Rattle.server_account.proofs.Uses.{handled_pumps, handled_reads, handled_writes, server_pumps, server_writes, settled_pumps, settled_writes, told_pumps, told_reads, told_writes}
 use Rattle.server_account.proofs.laws.bytes_go_on.Goals as goal
@@ -25,4 +27,13 @@ returns c = λ s t output later calls actions pieces own left rest. record {
     },
     settled_pumps s t u output later h.server pumps sound rest settled,
   );
+  credits = λ hold fs h settled carries sound.
+      let alive = ap (λ o. not (is_some o)) settled.alive in (
+        record {
+          server = server_credits s t output later hold fs h.server alive carries sound;
+          told = told_credits s t output later hold fs h.server alive carries pieces h.told;
+          handled = handled_credits s t output later hold fs h.server alive carries calls actions own left h.handled;
+        },
+        settled_credits s t output later hold fs h.server alive carries rest settled,
+      );
 }

@@ -1,4 +1,4 @@
-use Rattle.std.proofs.Common.{◌≡◌, ◌++◌, ◌∷◌, []}
+use Rattle.std.proofs.Common.{◌++◌, ◌∷◌, []}
 use Rattle.server_account.proofs.Events.{comes_next, comes_no_memory, comes_none, comes_stop, went, went_needs, went_starves, went_stops}
 use Rattle.server_account.proofs.Tells.{server_tells, told_tells}
 use Rattle.server_account.proofs.laws.events_come_next.Goals as goal
