@@ -1,6 +1,13 @@
 pub mod Sizes
 pub mod Steps
+pub mod Resting
+pub mod Collects
+pub mod Turning
+pub mod MessageTurns
 pub mod Messages
-pub mod Runs
+pub mod Handling
+pub mod Sessions
+pub mod Unfailing
+pub mod Applies
 pub mod Rows
 pub mod Lawful

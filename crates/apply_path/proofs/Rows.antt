@@ -1,183 +1,133 @@
--- What is written for an input is answers to all its commands, in a row.
-use Rattle.std.proofs.Common.{◌≡◌, ℕ, ◌+◌, cond, List, [], ◌∷◌, ◌++◌, length, Option, Some, None, refl, sym, ap, ◌∙◌, append_assoc, pos}
+-- What is written for an input is answers to all its events, in a row.
+use Rattle.std.proofs.Common.{◌≡◌, ℕ, ◌+◌, cond, List, [], ◌∷◌, ◌++◌, length, Option, Some, None, refl, sym, ap, subst, ◌∙◌, append_assoc}
 use Rattle.std.specs.Prelude.{is_some}
 use Rattle.std.specs.List.{flat_map}
 use Rattle.std.specs.Option.{option_map, option_or}
 use Rattle.std.proofs.lemmas.List.{append-nil, length_push}
+use Rattle.std.proofs.lemmas.List.Concat.{flat_map-append}
 use Rattle.schema_numbers.specs.Numbers.{Numbers}
 use Rattle.proto_schema.specs.declared.legal.MessageFault.{MessageFault}
 use Rattle.proto_schema.specs.declared.legal.MessageFault.TheVariants.{Wire, Utf8}
 use Rattle.proto_schema.specs.declared.legal.MessageFault.TheVariants as fault
-use Rattle.call_answers.specs.Orders.{commands_of, orders_of}
 use Rattle.call_answers.specs.declared.orders.Setting.{Setting}
-use Rattle.table_model.specs.declared.command.Command.{Command}
-use Rattle.table_model.specs.declared.command.Config.{Config}
+use Rattle.table_model.specs.declared.job.Verdict.{Verdict}
 use Rattle.table_model.specs.Event.{Event}
+use Rattle.inline_worker.specs.Turns.{behind}
 use Rattle.message_run.specs.Behaviour.{MessageTrace, Reply, trace_with, trace_from}
-use Rattle.apply_path.specs.History.{event, up_to_end, first_end, status_code_of, answer_bytes, CommandRun, run_commands}
-use Rattle.apply_path.specs.Responses.{config_of, fault_of, commands_unless, commands_at, run_message, history_from, history, begun, response_by, apply_behaviour}
-use Rattle.apply_path.specs.Laws.{is_unreadable, unreadable_place, readable, first_unreadable, ending_by, commands_from, events_of}
-use Rattle.apply_path.specs.SessionAt.{with_prefix}
-use Rattle.apply_path.proofs.Steps.{run_goes_on, run_ends}
-use Rattle.apply_path.proofs.Messages.{history_more, run_none}
+use Rattle.apply_path.specs.History.{answer_bytes, first_end, status_code_of, up_to_end}
+use Rattle.apply_path.specs.Responses.{apply_behaviour, begun, fault_of, history, history_from, message_events, response_by, run_message}
+use Rattle.apply_path.specs.Laws.{ending_by, events_from, events_of, first_unreadable, is_unreadable, readable, unreadable_place}
+use Rattle.apply_path.proofs.Messages.{history_more}
+use Rattle.apply_path.proofs.MessageTurns.{none_goes}
+use Rattle.apply_path.proofs.Turning.{GoOn, go_all}
 
--- commands, and others behind them
-abbrev pub then_by : Numbers → Config → List Command → List ℕ → Option ℕ → List Event → CommandRun
-then_by n config ds written None past = with_prefix written (run_commands n config past ds)
-then_by n config ds written (Some code) past = record { written = written; ending = Some code; past = past }
+-- ---- events, and others behind them
 
-abbrev pub then : Numbers → Config → List Command → CommandRun → CommandRun
-then n config ds first = then_by n config ds first.written first.ending first.past
+go_then : (es fs : List Event) → GoOn es → (up_to_end (es ++ fs) ≡ es ++ up_to_end fs) × (first_end (es ++ fs) ≡ first_end fs)
+unfolding up_to_end first_end
+go_then [] fs h = (refl, refl)
+go_then (e ∷ es) fs h = let rest = go_then es fs h.1 in (rw h.0 (ap (λ (l : List Event). e ∷ l) rest.0), rw h.0 rest.1)
 
-behind_then : (n : Numbers) (config : Config) (ds : List Command) (bytes written : List ℕ) (ending : Option ℕ) (past : List Event) → then_by n config ds (bytes ++ written) ending past ≡ with_prefix bytes (then_by n config ds written ending past)
-behind_then n config ds bytes written None past =
-    let next = run_commands n config past ds in
-    ap (λ (w : List ℕ). record { written = w; ending = next.ending; past = next.past }) (append_assoc bytes written next.written)
-behind_then n config ds bytes written (Some code) past = refl
-
-join_step : (n : Numbers) (config : Config) (past : List Event) (c : Command) (cs ds : List Command) (o : Option ℕ) → status_code_of (event config past c) ≡ o
-    → run_commands n config (event config past c ∷ past) (cs ++ ds) ≡ then n config ds (run_commands n config (event config past c ∷ past) cs) → run_commands n config past (c ∷ (cs ++ ds)) ≡ then n config ds (run_commands n config past (c ∷ cs))
-join_step n config past c cs ds None e more =
-    let first = run_commands n config (event config past c ∷ past) cs in
-    let bytes = answer_bytes n (event config past c) in
-    run_goes_on n config past c (cs ++ ds) e ∙ ap (with_prefix bytes) more ∙ sym (behind_then n config ds bytes first.written first.ending first.past) ∙ sym (ap (then n config ds) (run_goes_on n config past c cs e))
-join_step n config past c cs ds (Some code) e more = run_ends n config past c (cs ++ ds) code e ∙ sym (ap (then n config ds) (run_ends n config past c cs code e))
-
-pub run_join : (n : Numbers) (config : Config) (past : List Event) (cs ds : List Command) → run_commands n config past (cs ++ ds) ≡ then n config ds (run_commands n config past cs)
-run_join n config past [] ds = sym (ap (then n config ds) (run_none n config past))
-run_join n config past (c ∷ cs) ds = join_step n config past c cs ds (status_code_of (event config past c)) refl (run_join n config (event config past c ∷ past) cs ds)
+end_stops : (es fs : List Event) (code : ℕ) → first_end es ≡ Some code → (up_to_end (es ++ fs) ≡ up_to_end es) × (first_end (es ++ fs) ≡ Some code)
+unfolding up_to_end first_end
+end_stops [] fs code h = absurd cc
+end_stops (e ∷ es) fs code h = by_code (status_code_of e) refl h (end_stops es fs code)
+  where
+    by_code : (o : Option ℕ) → status_code_of e ≡ o → option_or (status_code_of e) (first_end es) ≡ Some code
+        → (first_end es ≡ Some code → (up_to_end (es ++ fs) ≡ up_to_end es) × (first_end (es ++ fs) ≡ Some code))
+        → (e ∷ cond (is_some (status_code_of e)) [] (up_to_end (es ++ fs)) ≡ e ∷ cond (is_some (status_code_of e)) [] (up_to_end es)) × (option_or (status_code_of e) (first_end (es ++ fs)) ≡ Some code)
+    by_code None is h rest =
+        let r = rest (sym (ap (λ (x : Option ℕ). option_or x (first_end es)) is) ∙ h) in
+        (rw is (ap (λ (l : List Event). e ∷ l) r.0), ap (λ (x : Option ℕ). option_or x (first_end (es ++ fs))) is ∙ r.1)
+    by_code (Some c) is h rest = (
+      rw is refl,
+      ap (λ (x : Option ℕ). option_or x (first_end (es ++ fs))) is ∙ sym (ap (λ (x : Option ℕ). option_or x (first_end es)) is) ∙ h,
+    )
 
 -- ---- messages
 
-written_then : (n : Numbers) (config : Config) (ds : List Command) (done : List (List ℕ)) (m written : List ℕ) (ending : Option ℕ) (past : List Event) (others : MessageTrace) → others.written ≡ (run_commands n config past ds).written
-    → (trace_with done m written (option_map (λ code. Reply code) ending) others).written ≡ (then_by n config ds written ending past).written
-written_then n config ds done m written None past others e = ap (λ (w : List ℕ). written ++ w) e
-written_then n config ds done m written (Some code) past others e = refl
+-- what messages come to is what these events do
+record InARow (n : Numbers) (all : List (List ℕ)) (unreadable : Option ℕ) (row : List Event) (t : MessageTrace) : Type 0 where
+  written : t.written ≡ flat_map (answer_bytes n) (up_to_end row)
+  ending : t.ending ≡ ending_by (first_end row) unreadable
+  done_are : first_end row ≡ None → t.done ≡ all
 
--- a message without commands leaves the history as it is
-nothing_done : (s : Setting) (past : List Event) (place : ℕ) (m : List ℕ) → fault_of s m ≡ Some fault.NoMemory → run_message s past place m ≡ record { written = []; ending = None; past = past }
-nothing_done s past place m e =
-    ap (λ (x : Option MessageFault). run_commands s.numbering (config_of s) past (commands_unless x (commands_of 0 (pos place) (orders_of s m)))) e ∙ run_none s.numbering (config_of s) past
+message_then : (n : Numbers) (es rest : List Event) (done all : List (List ℕ)) (m : List ℕ) (unreadable : Option ℕ) (t : MessageTrace) (o : Option ℕ) → first_end es ≡ o
+    → (first_end es ≡ None → InARow n all unreadable rest t)
+    → InARow n all unreadable (es ++ rest) (trace_with done m (flat_map (answer_bytes n) (up_to_end es)) (option_map (λ code. Reply code) o) t)
+message_then n es rest done all m unreadable t None is more =
+    let r = more is in
+    let goes = none_goes es is in
+    let j = go_then es rest goes in
+    record {
+      written = ap (λ (x : List ℕ). flat_map (answer_bytes n) (up_to_end es) ++ x) r.written
+          ∙ ap (λ (l : List Event). flat_map (answer_bytes n) l ++ flat_map (answer_bytes n) (up_to_end rest)) (go_all es goes)
+          ∙ sym (ap (flat_map (answer_bytes n)) j.0 ∙ flat_map-append (answer_bytes n) es (up_to_end rest));
+      ending = r.ending ∙ ap (λ (x : Option ℕ). ending_by x unreadable) (sym j.1);
+      done_are = λ none. r.done_are (sym j.1 ∙ none);
+    }
+message_then n es rest done all m unreadable t (Some code) is more =
+    let e = end_stops es rest code is in
+    record {
+      written = ap (flat_map (answer_bytes n)) (sym e.0);
+      ending = ap (λ (x : Option ℕ). ending_by x unreadable) (sym e.1);
+      done_are = λ none. let bad : Some code ≡ None = sym e.1 ∙ none in absurd cc;
+    }
 
-message_step : (s : Setting) (past : List Event) (place : ℕ) (done : List (List ℕ)) (m : List ℕ) (ms : List (List ℕ)) (others : MessageTrace) (f : Option MessageFault) → fault_of s m ≡ f
-    → others.written ≡ (run_commands s.numbering (config_of s) (run_message s past place m).past (commands_from s (place + 1) ms)).written
-    → (trace_with done m (response_by f (run_message s past place m)).written (response_by f (run_message s past place m)).ending others).written
-    ≡ (run_commands s.numbering (config_of s) past (commands_from s place (cond (is_unreadable f) [] (m ∷ ms)))).written
-unfolding commands_from
-message_step s past place done m ms others None e more =
-    let first = run_message s past place m in
-    written_then s.numbering (config_of s) (commands_from s (place + 1) ms) done m first.written first.ending first.past others more
-    ∙ sym (ap (λ (x : CommandRun). x.written) (run_join s.numbering (config_of s) past (commands_at s place m) (commands_from s (place + 1) ms)))
-message_step s past place done m ms others (Some (Wire p found)) e more = sym (ap (λ (x : CommandRun). x.written) (run_none s.numbering (config_of s) past))
-message_step s past place done m ms others (Some (Utf8 p)) e more = sym (ap (λ (x : CommandRun). x.written) (run_none s.numbering (config_of s) past))
-message_step s past place done m ms others (Some fault.NoMemory) e more =
-    let ds = commands_from s (place + 1) ms in
-    let first = nothing_done s past place m e in
-    more ∙ ap (λ (x : CommandRun). (run_commands s.numbering (config_of s) x.past ds).written) first
-    ∙ sym (ap (λ (x : CommandRun). x.written) (run_join s.numbering (config_of s) past (commands_at s place m) ds ∙ ap (then s.numbering (config_of s) ds) first))
+nothing_done : (s : Setting) (said : List Verdict) (past : List Event) (place : ℕ) (done : List (List ℕ)) (m : List ℕ) (ms : List (List ℕ)) (t : MessageTrace) → fault_of s m ≡ Some fault.NoMemory
+    → InARow s.numbering ((done ++ m ∷ []) ++ readable s ms) (first_unreadable s ms) (events_from s said (run_message s said past place m).past (place + 1) (readable s ms)) t
+    → InARow s.numbering (done ++ m ∷ readable s ms) (first_unreadable s ms) (events_from s said past place (m ∷ readable s ms)) (record { done = t.done; written = t.written; ending = t.ending })
+unfolding events_from up_to_end
+nothing_done s said past place done m ms t e more =
+    let rest : List (List ℕ) = readable s ms in
+    let none : message_events s said past place m ≡ [] = rw e refl in
+    let here = subst (λ (l : List Event). InARow s.numbering ((done ++ m ∷ []) ++ rest) (first_unreadable s ms) (events_from s said (behind past (up_to_end l)) (place + 1) rest) t) none more in
+    let row = subst (λ (l : List Event). InARow s.numbering ((done ++ m ∷ []) ++ rest) (first_unreadable s ms) (l ++ events_from s said (behind past l) (place + 1) rest) t) (sym none) here in
+    record { written = row.written; ending = row.ending; done_are = λ none. row.done_are none ∙ append_assoc done (m ∷ []) rest }
 
--- the commands of messages, the first of which is at this place, as far as they can be read
-abbrev pub run_messages : Setting → List Event → ℕ → List (List ℕ) → CommandRun
-run_messages s past place ms = run_commands s.numbering (config_of s) past (commands_from s place (readable s ms))
+message_step : (s : Setting) (said : List Verdict) (past : List Event) (place : ℕ) (done : List (List ℕ)) (m : List ℕ) (ms : List (List ℕ)) (t : MessageTrace) (f : Option MessageFault) → fault_of s m ≡ f
+    → InARow s.numbering ((done ++ m ∷ []) ++ readable s ms) (first_unreadable s ms) (events_from s said (run_message s said past place m).past (place + 1) (readable s ms)) t
+    → InARow s.numbering (done ++ cond (is_unreadable f) [] (m ∷ readable s ms)) (option_or (unreadable_place f) (first_unreadable s ms)) (events_from s said past place (cond (is_unreadable f) [] (m ∷ readable s ms)))
+    (trace_with done m (response_by f (run_message s said past place m)).written (response_by f (run_message s said past place m)).ending t)
+unfolding events_from up_to_end first_end
+message_step s said past place done m ms t None e more =
+    let es = message_events s said past place m in
+    let rest : List (List ℕ) = readable s ms in
+    let here = subst (λ (l : List (List ℕ)). InARow s.numbering l (first_unreadable s ms) (events_from s said (behind past (up_to_end es)) (place + 1) rest) t) (append_assoc done (m ∷ []) rest) more in
+    message_then s.numbering es (events_from s said (behind past es) (place + 1) rest) done (done ++ m ∷ rest) m (first_unreadable s ms) t (first_end es) refl
+    (λ none. subst (λ (l : List Event). InARow s.numbering (done ++ m ∷ rest) (first_unreadable s ms) (events_from s said (behind past l) (place + 1) rest) t) (go_all es (none_goes es none)) here)
+message_step s said past place done m ms t (Some (Wire p found)) e more = record { written = refl; ending = refl; done_are = λ none. sym (append-nil done) }
+message_step s said past place done m ms t (Some (Utf8 p)) e more = record { written = refl; ending = refl; done_are = λ none. sym (append-nil done) }
+message_step s said past place done m ms t (Some fault.NoMemory) e more = nothing_done s said past place done m ms t e more
 
--- behind a message more
-series_there : (s : Setting) (done : List (List ℕ)) (m : List ℕ) (ms : List (List ℕ))
-    → run_messages s (history s (done ++ m ∷ [])) (length (done ++ m ∷ []) + 1) ms ≡ run_messages s (run_message s (history s done) (length done + 1) m).past (length done + 1 + 1) ms
-series_there s done m ms =
-    ap (λ (k : ℕ). run_messages s (history s (done ++ m ∷ [])) (k + 1) ms) (length_push done m) ∙ ap (λ (p : List Event). run_messages s p (length done + 1 + 1) ms) (history_more s (begun s) 1 done m)
+in_a_row : (s : Setting) (said : List Verdict) (done ms : List (List ℕ))
+    → InARow s.numbering (done ++ readable s ms) (first_unreadable s ms) (events_from s said (history s said done) (length done + 1) (readable s ms)) (trace_from (apply_behaviour s said) done ms)
+unfolding trace_from readable events_from first_unreadable apply_behaviour up_to_end first_end
+in_a_row s said done [] = record { written = refl; ending = refl; done_are = λ none. sym (append-nil done) }
+in_a_row s said done (m ∷ ms) =
+    let past = history s said done in
+    let t = trace_from (apply_behaviour s said) (done ++ m ∷ []) ms in
+    let rest : List (List ℕ) = readable s ms in
+    let row_is : events_from s said (history s said (done ++ m ∷ [])) (length (done ++ m ∷ []) + 1) rest ≡ events_from s said (run_message s said past (length done + 1) m).past (length done + 1 + 1) rest
+    = ap (λ (p : List Event). events_from s said p (length (done ++ m ∷ []) + 1) rest) (history_more s said (begun s) 1 done m)
+    ∙ ap (λ (k : ℕ). events_from s said (run_message s said past (length done + 1) m).past (k + 1) rest) (length_push done m) in
+    message_step s said past (length done + 1) done m ms t (fault_of s m) refl
+    (subst (λ (row : List Event). InARow s.numbering ((done ++ m ∷ []) ++ rest) (first_unreadable s ms) row t) row_is (in_a_row s said (done ++ m ∷ []) ms))
 
-written_from : (s : Setting) (done ms : List (List ℕ)) → (trace_from (apply_behaviour s) done ms).written ≡ (run_messages s (history s done) (length done + 1) ms).written
-unfolding trace_from readable commands_from apply_behaviour
-written_from s done [] = sym (ap (λ (x : CommandRun). x.written) (run_none s.numbering (config_of s) (history s done)))
-written_from s done (m ∷ ms) =
-    message_step s (history s done) (length done + 1) done m (readable s ms) (trace_from (apply_behaviour s) (done ++ m ∷ []) ms) (fault_of s m) refl
-    (written_from s (done ++ m ∷ []) ms ∙ ap (λ (x : CommandRun). x.written) (series_there s done m ms))
+-- ---- an input
 
-up_to_none : (es : List Event) → first_end es ≡ None → up_to_end es ≡ es
-unfolding up_to_end first_end
-up_to_none [] e = refl
-up_to_none (x ∷ es) e = none_in x es (status_code_of x) refl e (up_to_none es)
-  where
-    none_in : (x : Event) (es : List Event) (o : Option ℕ) → status_code_of x ≡ o → option_or (status_code_of x) (first_end es) ≡ None → (first_end es ≡ None → up_to_end es ≡ es) → x ∷ cond (is_some (status_code_of x)) [] (up_to_end es) ≡ x ∷ es
-    none_in x es None c e more = let rest : first_end es ≡ None = sym (ap (λ (o : Option ℕ). option_or o (first_end es)) c) ∙ e in rw c (ap (λ (l : List Event). x ∷ l) (more rest))
-    none_in x es (Some code) c e more = let both : Some code ≡ None = sym (ap (λ (o : Option ℕ). option_or o (first_end es)) c) ∙ e in absurd cc
+pub answers_in_a_row : (s : Setting) (said : List Verdict) (messages : List (List ℕ)) → (trace_from (apply_behaviour s said) [] messages).written ≡ flat_map (answer_bytes s.numbering) (up_to_end (events_of s said messages))
+unfolding history_from
+answers_in_a_row s said messages = (in_a_row s said [] messages).written
 
-pub answers_in_a_row : (s : Setting) (messages : List (List ℕ)) → (trace_from (apply_behaviour s) [] messages).written ≡ flat_map (answer_bytes s.numbering) (up_to_end (events_of s messages))
-unfolding run_commands history_from
-answers_in_a_row s messages = written_from s [] messages
+pub whole_answers : (s : Setting) (said : List Verdict) (messages : List (List ℕ)) → first_end (events_of s said messages) ≡ None
+    → (trace_from (apply_behaviour s said) [] messages).written ≡ flat_map (answer_bytes s.numbering) (events_of s said messages)
+whole_answers s said messages e = answers_in_a_row s said messages ∙ ap (flat_map (answer_bytes s.numbering)) (go_all (events_of s said messages) (none_goes (events_of s said messages) e))
 
-pub whole_answers : (s : Setting) (messages : List (List ℕ)) → first_end (events_of s messages) ≡ None → (trace_from (apply_behaviour s) [] messages).written ≡ flat_map (answer_bytes s.numbering) (events_of s messages)
-whole_answers s messages e = answers_in_a_row s messages ∙ ap (flat_map (answer_bytes s.numbering)) (up_to_none (events_of s messages) e)
+pub ending_is : (s : Setting) (said : List Verdict) (messages : List (List ℕ)) → (trace_from (apply_behaviour s said) [] messages).ending ≡ ending_by (first_end (events_of s said messages)) (first_unreadable s messages)
+unfolding history_from
+ending_is s said messages = (in_a_row s said [] messages).ending
 
--- ---- how the stream ends
-
-ending_then : (n : Numbers) (config : Config) (ds : List Command) (done : List (List ℕ)) (m written : List ℕ) (ending : Option ℕ) (past : List Event) (unreadable : Option ℕ) (others : MessageTrace)
-    → others.ending ≡ ending_by (run_commands n config past ds).ending unreadable
-    → (trace_with done m written (option_map (λ code. Reply code) ending) others).ending ≡ ending_by (then_by n config ds written ending past).ending unreadable
-ending_then n config ds done m written None past unreadable others e = e
-ending_then n config ds done m written (Some code) past unreadable others e = refl
-
-ending_step : (s : Setting) (past : List Event) (place : ℕ) (done : List (List ℕ)) (m : List ℕ) (ms : List (List ℕ)) (unreadable : Option ℕ) (others : MessageTrace) (f : Option MessageFault) → fault_of s m ≡ f
-    → others.ending ≡ ending_by (run_commands s.numbering (config_of s) (run_message s past place m).past (commands_from s (place + 1) ms)).ending unreadable
-    → (trace_with done m (response_by f (run_message s past place m)).written (response_by f (run_message s past place m)).ending others).ending
-    ≡ ending_by (run_commands s.numbering (config_of s) past (commands_from s place (cond (is_unreadable f) [] (m ∷ ms)))).ending (option_or (unreadable_place f) unreadable)
-unfolding commands_from
-ending_step s past place done m ms unreadable others None e more =
-    let first = run_message s past place m in
-    ending_then s.numbering (config_of s) (commands_from s (place + 1) ms) done m first.written first.ending first.past unreadable others more
-    ∙ sym (ap (λ (x : CommandRun). ending_by x.ending unreadable) (run_join s.numbering (config_of s) past (commands_at s place m) (commands_from s (place + 1) ms)))
-ending_step s past place done m ms unreadable others (Some (Wire p found)) e more = sym (ap (λ (x : CommandRun). ending_by x.ending (Some p)) (run_none s.numbering (config_of s) past))
-ending_step s past place done m ms unreadable others (Some (Utf8 p)) e more = sym (ap (λ (x : CommandRun). ending_by x.ending (Some p)) (run_none s.numbering (config_of s) past))
-ending_step s past place done m ms unreadable others (Some fault.NoMemory) e more =
-    let ds = commands_from s (place + 1) ms in
-    let first = nothing_done s past place m e in
-    more ∙ ap (λ (x : CommandRun). ending_by (run_commands s.numbering (config_of s) x.past ds).ending unreadable) first
-    ∙ sym (ap (λ (x : CommandRun). ending_by x.ending unreadable) (run_join s.numbering (config_of s) past (commands_at s place m) ds ∙ ap (then s.numbering (config_of s) ds) first))
-
-ending_from : (s : Setting) (done ms : List (List ℕ)) → (trace_from (apply_behaviour s) done ms).ending ≡ ending_by (run_messages s (history s done) (length done + 1) ms).ending (first_unreadable s ms)
-unfolding trace_from readable commands_from first_unreadable apply_behaviour
-ending_from s done [] = sym (ap (λ (x : CommandRun). ending_by x.ending None) (run_none s.numbering (config_of s) (history s done)))
-ending_from s done (m ∷ ms) =
-    ending_step s (history s done) (length done + 1) done m (readable s ms) (first_unreadable s ms) (trace_from (apply_behaviour s) (done ++ m ∷ []) ms) (fault_of s m) refl
-    (ending_from s (done ++ m ∷ []) ms ∙ ap (λ (x : CommandRun). ending_by x.ending (first_unreadable s ms)) (series_there s done m ms))
-
-pub ending_is : (s : Setting) (messages : List (List ℕ)) → (trace_from (apply_behaviour s) [] messages).ending ≡ ending_by (first_end (events_of s messages)) (first_unreadable s messages)
-unfolding run_commands history_from
-ending_is s messages = ending_from s [] messages
-
--- ---- which messages are done
-
-done_then : (n : Numbers) (config : Config) (ds : List Command) (done all : List (List ℕ)) (m written : List ℕ) (ending : Option ℕ) (past : List Event) (others : MessageTrace)
-    → (then_by n config ds written ending past).ending ≡ None → ((run_commands n config past ds).ending ≡ None → others.done ≡ all)
-    → (trace_with done m written (option_map (λ code. Reply code) ending) others).done ≡ all
-done_then n config ds done all m written None past others e more = more e
-done_then n config ds done all m written (Some code) past others e more = absurd cc
-
-done_step : (s : Setting) (past : List Event) (place : ℕ) (done : List (List ℕ)) (m : List ℕ) (ms : List (List ℕ)) (others : MessageTrace) (f : Option MessageFault) → fault_of s m ≡ f
-    → ((run_commands s.numbering (config_of s) (run_message s past place m).past (commands_from s (place + 1) ms)).ending ≡ None → others.done ≡ (done ++ m ∷ []) ++ ms)
-    → (run_commands s.numbering (config_of s) past (commands_from s place (cond (is_unreadable f) [] (m ∷ ms)))).ending ≡ None
-    → (trace_with done m (response_by f (run_message s past place m)).written (response_by f (run_message s past place m)).ending others).done ≡ done ++ cond (is_unreadable f) [] (m ∷ ms)
-unfolding commands_from
-done_step s past place done m ms others None e more ends =
-    let first = run_message s past place m in
-    let ds = commands_from s (place + 1) ms in
-    let joined = ap (λ (x : CommandRun). x.ending) (run_join s.numbering (config_of s) past (commands_at s place m) ds) in
-    done_then s.numbering (config_of s) ds done ((done ++ m ∷ []) ++ ms) m first.written first.ending first.past others (sym joined ∙ ends) more ∙ append_assoc done (m ∷ []) ms
-done_step s past place done m ms others (Some (Wire p found)) e more ends = sym (append-nil done)
-done_step s past place done m ms others (Some (Utf8 p)) e more ends = sym (append-nil done)
-done_step s past place done m ms others (Some fault.NoMemory) e more ends =
-    let ds = commands_from s (place + 1) ms in
-    let first = nothing_done s past place m e in
-    let joined = ap (λ (x : CommandRun). x.ending) (run_join s.numbering (config_of s) past (commands_at s place m) ds ∙ ap (then s.numbering (config_of s) ds) first) in
-    more (ap (λ (x : CommandRun). (run_commands s.numbering (config_of s) x.past ds).ending) first ∙ sym joined ∙ ends) ∙ append_assoc done (m ∷ []) ms
-
-done_from : (s : Setting) (done ms : List (List ℕ)) → (run_messages s (history s done) (length done + 1) ms).ending ≡ None → (trace_from (apply_behaviour s) done ms).done ≡ done ++ readable s ms
-unfolding trace_from readable commands_from apply_behaviour
-done_from s done [] e = sym (append-nil done)
-done_from s done (m ∷ ms) e =
-    done_step s (history s done) (length done + 1) done m (readable s ms) (trace_from (apply_behaviour s) (done ++ m ∷ []) ms) (fault_of s m) refl
-    (λ none. done_from s (done ++ m ∷ []) ms (ap (λ (x : CommandRun). x.ending) (series_there s done m ms) ∙ none)) e
-
-pub done_are : (s : Setting) (messages : List (List ℕ)) → first_end (events_of s messages) ≡ None → (trace_from (apply_behaviour s) [] messages).done ≡ readable s messages
-unfolding run_commands history_from
-done_are s messages e = done_from s [] messages e
+pub done_are : (s : Setting) (said : List Verdict) (messages : List (List ℕ)) → first_end (events_of s said messages) ≡ None → (trace_from (apply_behaviour s said) [] messages).done ≡ readable s messages
+unfolding history_from
+done_are s said messages = (in_a_row s said [] messages).done_are

@@ -4,21 +4,22 @@ use Rattle.std.proofs.lemmas.List.{append-nil}
 use Rattle.std.proofs.lemmas.List.Concat.{flat_map-cons}
 use Rattle.schema_numbers.specs.Numbers.{Numbers}
 use Rattle.table_model.specs.declared.command.Command.{Command}
-use Rattle.table_model.specs.declared.command.Command.TheVariants.{Begin, SetParams, Announce, Operate, Collect, Leave, Flush, Select, Take, Report, Halt}
+use Rattle.table_model.specs.declared.command.Command.TheVariants.{Begin, Leave}
 use Rattle.table_model.specs.declared.command.Config.{Config}
 use Rattle.table_model.specs.declared.reply.Reply.{Reply}
 use Rattle.table_model.specs.declared.reply.Reply.TheVariants as reply
 use Rattle.table_model.specs.Event.{Event, events, is_no_memory}
 use Rattle.table_model.specs.Legal.{IsAnswer}
 use Rattle.table_model.specs.Reply.{reply_to}
-use Rattle.modify_core.specs.Core.{Core}
-use Rattle.modify_core.specs.Stands.{StandsFor, Acts}
-use Rattle.modify_core.specs.Built.{as_served}
+use Rattle.inline_worker.specs.CoreAt.{CoreAt}
+use Rattle.inline_worker.specs.Turns.{behind}
+use Rattle.rib_core.specs.Core.{Core}
+use Rattle.rib_core.specs.Stands.{StandsFor, Acts}
 use Rattle.message_run.specs.declared.message_handler.Handled.{Handled}
 use Rattle.message_run.specs.declared.message_handler.Handled.TheVariants.{Continue, Ends, Unreadable, NoMemory}
 use Rattle.table_model.specs.Reply.{is_gone, answer}
-use Rattle.apply_path.specs.History.{event, answered, with_events, up_to_end, first_end, is_operate, id_of, moment_of, status_code_by, status_code_of, response_item, answer_bytes, CommandRun, run_of_events, run_commands}
-use Rattle.apply_path.specs.SessionAt.{CoreAt, AnswersReply, Replied, RanOn, RunResult, RunsCommands, with_prefix}
+use Rattle.apply_path.specs.History.{event, answered, up_to_end, first_end, is_operate, id_of, moment_of, status_code_by, status_code_of, response_item, answer_bytes, CommandRun, run_of_events, run_commands}
+use Rattle.apply_path.specs.SessionAt.{AnswersReply, Replied, RanOn, RunResult, RunsCommands, with_prefix}
 
 -- ---- one event
 
@@ -38,12 +39,12 @@ unfolding events
 events_more past e all has = ap (λ (b : Bool). cond b (events past) (e ∷ events past)) has ∙ ap (λ (p : List Event). e ∷ p) all
 
 pub stood_more : (config : Config) (old new : Core) (past : List Event) (command : Command) (given : Reply) → CoreAt config old past → new.config ≡ old.config → is_no_memory given ≡ false
-    → Acts old (as_served command) given new → CoreAt config new (event config past command ∷ past) × (given ≡ reply_to config past (as_served command))
+    → Acts old command given new → CoreAt config new (event config past command ∷ past) × (given ≡ reply_to config past command)
 stood_more config old new past command given stood same has acts =
     let now = acts past stood.stands in
     let config_is = same ∙ stood.config_is in
-    let is = replied config new past (as_served command) given config_is stood.all has now in
-    let e : record { command = as_served command; reply = given } ≡ event config past command = ap (λ (r : Reply). record { command = as_served command; reply = r }) is in (
+    let is = replied config new past command given config_is stood.all has now in
+    let e : record { command = command; reply = given } ≡ event config past command = ap (λ (r : Reply). record { command = command; reply = r }) is in (
       record {
         stands = subst (λ (x : Event). StandsFor new (x ∷ past)) e now;
         all = events_more past (event config past command) stood.all (ap is_no_memory (sym is) ∙ has);
@@ -55,57 +56,18 @@ stood_more config old new past command given stood same has acts =
 -- ---- one command
 
 goes_in : (n : Numbers) (past : List Event) (e : Event) (es : List Event) → status_code_of e ≡ None → run_of_events n past (e ∷ es) ≡ with_prefix (answer_bytes n e) (run_of_events n (e ∷ past) es)
-unfolding up_to_end first_end with_events
-goes_in n past e es on = rw on (ap (λ (w : List ℕ). record { written = w; ending = first_end es; past = with_events (e ∷ past) (up_to_end es) }) (flat_map-cons (answer_bytes n) e (up_to_end es)))
+unfolding up_to_end first_end
+goes_in n past e es on = rw on (ap (λ (w : List ℕ). record { written = w; ending = first_end es; past = behind (e ∷ past) (up_to_end es) }) (flat_map-cons (answer_bytes n) e (up_to_end es)))
 
 ends_in : (n : Numbers) (past : List Event) (e : Event) (es : List Event) (code : ℕ) → status_code_of e ≡ Some code → run_of_events n past (e ∷ es) ≡ record { written = answer_bytes n e; ending = Some code; past = e ∷ past }
-unfolding up_to_end first_end with_events
+unfolding up_to_end first_end
 ends_in n past e es code on = rw on (ap (λ (w : List ℕ). record { written = w; ending = Some code; past = e ∷ past }) (flat_map-cons (answer_bytes n) e [] ∙ append-nil (answer_bytes n e)))
 
-operate_as : (c : Command) → is_operate (as_served c) ≡ is_operate c
-operate_as Begin = refl
-operate_as (SetParams s a) = refl
-operate_as (Announce s i) = refl
-operate_as (Operate s o t) = refl
-operate_as (Collect s) = refl
-operate_as (Leave s) = refl
-operate_as (Flush b w t) = refl
-operate_as (Select w k) = refl
-operate_as (Take w t) = refl
-operate_as (Report j v t) = refl
-operate_as Halt = refl
+code_as : (config : Config) (past : List Event) (c : Command) (given : Reply) → given ≡ reply_to config past c → status_code_of (event config past c) ≡ status_code_by (is_operate c) given
+code_as config past c given is = ap (status_code_by (is_operate c)) (sym is)
 
-id_as : (c : Command) → id_of (as_served c) ≡ id_of c
-id_as Begin = refl
-id_as (SetParams s a) = refl
-id_as (Announce s i) = refl
-id_as (Operate s o t) = refl
-id_as (Collect s) = refl
-id_as (Leave s) = refl
-id_as (Flush b w t) = refl
-id_as (Select w k) = refl
-id_as (Take w t) = refl
-id_as (Report j v t) = refl
-id_as Halt = refl
-
-moment_as : (c : Command) → moment_of (as_served c) ≡ moment_of c
-moment_as Begin = refl
-moment_as (SetParams s a) = refl
-moment_as (Announce s i) = refl
-moment_as (Operate s o t) = refl
-moment_as (Collect s) = refl
-moment_as (Leave s) = refl
-moment_as (Flush b w t) = refl
-moment_as (Select w k) = refl
-moment_as (Take w t) = refl
-moment_as (Report j v t) = refl
-moment_as Halt = refl
-
-code_as : (config : Config) (past : List Event) (c : Command) (given : Reply) → given ≡ reply_to config past (as_served c) → status_code_of (event config past c) ≡ status_code_by (is_operate c) given
-code_as config past c given is = rw (operate_as c, is) refl
-
-bytes_as : (n : Numbers) (config : Config) (past : List Event) (c : Command) (given : Reply) → given ≡ reply_to config past (as_served c) → answer_bytes n (event config past c) ≡ response_item n (id_of c) (moment_of c) given
-bytes_as n config past c given is = rw (id_as c, moment_as c, is) refl
+bytes_as : (n : Numbers) (config : Config) (past : List Event) (c : Command) (given : Reply) → given ≡ reply_to config past c → answer_bytes n (event config past c) ≡ response_item n (id_of c) (moment_of c) given
+bytes_as n config past c given is = ap (response_item n (id_of c) (moment_of c)) (sym is)
 
 pub run_goes_on : (n : Numbers) (config : Config) (past : List Event) (c : Command) (others : List Command) → status_code_of (event config past c) ≡ None
     → run_commands n config past (c ∷ others) ≡ with_prefix (answer_bytes n (event config past c)) (run_commands n config (event config past c ∷ past) others)

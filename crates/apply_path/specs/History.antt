@@ -12,25 +12,20 @@ use Rattle.table_model.specs.declared.command.Config.{Config}
 use Rattle.table_model.specs.declared.reply.Reply.{Reply}
 use Rattle.table_model.specs.Event.{Event}
 use Rattle.table_model.specs.Reply.{reply_to}
-use Rattle.modify_core.specs.Built.{as_served}
+use Rattle.inline_worker.specs.Turns.{behind}
 use Rattle.call_answers.specs.Answers.{response_for}
 use Rattle.call_answers.specs.Ends.{status_by}
 
 -- ---- events
 
--- the event of a command after a history, the latest event first: the command as the table reads it, and the server's reply
+-- the event of a command after a history, the latest event first: the command, and the server's reply
 abbrev pub event : Config → List Event → Command → Event
-event config past command = record { command = as_served command; reply = reply_to config past (as_served command) }
+event config past command = record { command = command; reply = reply_to config past command }
 
 -- the events of commands, one after another, the first first
 unfoldable pub answered : Config → List Event → List Command → List Event
 answered config past [] = []
 answered config past (c ∷ cs) = event config past c ∷ answered config (event config past c ∷ past) cs
-
--- the history with these events behind it
-unfoldable pub with_events : List Event → List Event → List Event
-with_events past [] = past
-with_events past (e ∷ es) = with_events (e ∷ past) es
 
 -- ---- ends
 
@@ -83,7 +78,7 @@ pub record CommandRun : Type 0 where
 
 -- of events
 abbrev pub run_of_events : Numbers → List Event → List Event → CommandRun
-run_of_events n past es = record { written = flat_map (answer_bytes n) (up_to_end es); ending = first_end es; past = with_events past (up_to_end es) }
+run_of_events n past es = record { written = flat_map (answer_bytes n) (up_to_end es); ending = first_end es; past = behind past (up_to_end es) }
 
 -- of commands after a history: those behind the reply that ends the stream aren't done
 unfoldable pub run_commands : Numbers → Config → List Event → List Command → CommandRun

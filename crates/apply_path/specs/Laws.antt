@@ -5,10 +5,10 @@ use Rattle.proto_schema.specs.declared.legal.MessageFault.{MessageFault}
 use Rattle.proto_schema.specs.declared.legal.MessageFault.TheVariants.{Wire, Utf8}
 use Rattle.message_run.specs.Behaviour.{Ending, Reply, Field}
 use Rattle.call_answers.specs.declared.orders.Setting.{Setting}
-use Rattle.table_model.specs.declared.command.Command.{Command}
+use Rattle.table_model.specs.declared.job.Verdict.{Verdict}
 use Rattle.table_model.specs.Event.{Event}
-use Rattle.apply_path.specs.History.{answered}
-use Rattle.apply_path.specs.Responses.{config_of, fault_of, commands_at, begun}
+use Rattle.inline_worker.specs.Turns.{behind}
+use Rattle.apply_path.specs.Responses.{begun, fault_of, message_events}
 
 -- A field of the message can't be read. No first fault is NoMemory.
 abbrev pub is_unreadable : Option MessageFault → Bool
@@ -37,11 +37,14 @@ abbrev pub ending_by : Option ℕ → Option ℕ → Option Ending
 ending_by (Some code) place = Some (Reply code)
 ending_by None place = option_map (λ place. Field place) place
 
--- the commands of messages, the first of which is at this place
-unfoldable pub commands_from : Setting → ℕ → List (List ℕ) → List Command
-commands_from s place [] = []
-commands_from s place (m ∷ ms) = commands_at s place m ++ commands_from s (place + 1) ms
+-- The events of messages, the first of which is at this place: those of their commands, and behind each message those of the worker
+-- and of the session that collects.
+unfoldable pub events_from : Setting → List Verdict → List Event → ℕ → List (List ℕ) → List Event
+events_from s said past place [] = []
+events_from s said past place (m ∷ ms) =
+    let es = message_events s said past place m in
+    es ++ events_from s said (behind past es) (place + 1) ms
 
--- the one-thread server's events for all commands of an input's messages that can be read, behind the session's beginning
-abbrev pub events_of : Setting → List (List ℕ) → List Event
-events_of s messages = answered (config_of s) (begun s) (commands_from s 1 (readable s messages))
+-- the one-thread server's events for an input's messages that can be read, behind the session's beginning
+abbrev pub events_of : Setting → List Verdict → List (List ℕ) → List Event
+events_of s said messages = events_from s said (begun s) 1 (readable s messages)

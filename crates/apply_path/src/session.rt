@@ -1,18 +1,28 @@
-ghost use Rattle.std.specs.Prelude.{◌≡◌, ◌+◌, ◌<◌, ◌≤◌, ◌^◌, ◌∷◌, [], List, map, pos, IfOk};
+//! What a session of one input does with its commands.
+ghost use Rattle.std.specs.Prelude.{◌≡◌, ◌+◌, ◌<◌, ◌≤◌, ◌^◌, ◌∷◌, [], List, length, map, pos, IfOk};
 ghost use Rattle.table_model.specs.Event.{Event};
+ghost use Rattle.table_model.specs.declared.job.Verdict.{Verdict};
+ghost use Rattle.inline_worker.specs.CoreAt.{CoreAt};
+ghost use Rattle.inline_worker.specs.Turns.{reports};
+ghost use Rattle.inline_worker.specs.Works.{device_told};
 ghost use Rattle.call_answers.specs.Orders.{commands_of, operation_at, orders_of};
-ghost use Rattle.apply_path.specs.SessionAt.{CoreAt, RunsCommands, HandlesFault, Begun, params_commands, election_commands, header_commands};
+ghost use Rattle.apply_path.specs.Responses.{config_of};
+ghost use Rattle.apply_path.specs.SessionAt.{Begun, HandlesFault, MessageDone, RunsCommands, TakesTurns, TurnsTaken};
+ghost use Rattle.apply_path.specs.SessionAt.{params_commands, election_commands, header_commands};
 
 use crate::step::{
-    AnswerWriter, answer_operation, discard_reply, do_command, is_out_of_memory, operate,
+    AnswerWriter, answer_operation, collect_all, discard_reply, do_command, is_out_of_memory,
+    operate,
 };
+use aft_entries::{Device, checked_entries_fit};
 use call_answers::{Setting, operations_in, read_header, read_operation};
-use message_run::{Handled, MessageHandler};
-use modify_core::RibCore;
-use proto_schema::{MessageFault, MessageKind, first_fault};
+use fib_worker::others_keep_shard;
+use inline_worker::work_until_idle;
+use message_run::Handled;
+use proto_schema::MessageFault;
+use rib_core::RibCore;
 use schema_numbers::Numbering;
 use std::alloc::{AllocError, Global};
-use std::mem::swap;
 use table_model::{AskedParams, Command, Config, Operation};
 
 // Sets the parameters that are asked for.
@@ -189,8 +199,8 @@ fn do_request(
     }
 }
 
-// What a message comes to that can't be read.
-fn unreadable(fault: MessageFault) -> Handled
+/// What a message comes to that can't be read.
+pub fn unreadable(fault: MessageFault) -> Handled
     ensures { HandlesFault fault result }
 {
     match fault {
@@ -200,8 +210,8 @@ fn unreadable(fault: MessageFault) -> Handled
     }
 }
 
-// A table in which the session has begun.
-fn begun(alloc: Global, instances: u16) -> Result<RibCore, AllocError>
+/// A table in which the session has begun.
+pub fn begun(alloc: Global, instances: u16) -> Result<RibCore, AllocError>
     requires { (1 ≤ instances) × (instances ≤ 256) }
     ensures { IfOk result (λ core. Begun instances core) }
 {
@@ -220,71 +230,50 @@ fn begun(alloc: Global, instances: u16) -> Result<RibCore, AllocError>
     Ok(core)
 }
 
-/// The session of one input: its table, how many messages there were, and room for an answer.
-#[derive(Drop)]
-pub struct Session<'a> {
-    setting: &'a Setting,
-    core: RibCore,
-    count: u64,
-    writer: AnswerWriter,
+// What follows a message: the only worker takes its jobs until it has none, and then the session collects until nothing is
+// outstanding.
+fn do_turns<D: Device>(
+    n: &Numbering,
+    core: &mut RibCore,
+    device: &mut D,
+    number: u64,
+    writer: &mut AnswerWriter,
+) -> Handled
+    requires number { number < 2 ^ 62 }
+    requires rest { (config : Config) × (past : List Event) × CoreAt config core.old past × TakesTurns config past }
+    ensures { (config : Config) (past : List Event) (said : List Verdict) → CoreAt config core.old past → TakesTurns config past
+        → length said ≡ reports past
+        → TurnsTaken n.now config (pos number) past said core.new (device_told D.faults D.contents device.old device.new)
+        result writer.old.out.items writer.new.out.items }
+{
+    if !work_until_idle(core, device, number as i64) {
+        return Handled::NoMemory;
+    }
+    collect_all(n, core, writer)
 }
 
-impl<'a> Session<'a> {
-    ghost use Rattle.std.specs.Prelude.{[]};
-    ghost use Rattle.apply_path.specs.SessionAt.{SessionAt};
-
-    /// A session that has begun, before any message.
-    pub fn new(alloc: Global, setting: &'a Setting) -> Result<Session<'a>, AllocError>
-        ensures setting { IfOk result (λ session. session.setting.now ≡ setting.now) }
-        ensures begun { IfOk result (λ session. SessionAt setting.now session.core session.count []) }
-    {
-        let core = begun(alloc, setting.instances.count())?;
-        Ok(Session {
-            setting,
-            core,
-            count: 0,
-            writer: AnswerWriter {
-                alloc,
-                message: Vec::new(alloc),
-                out: Vec::new(alloc),
-            },
-        })
-    }
-}
-
-impl<'a> MessageHandler for Session<'a> {
-    ghost use Rattle.apply_path.specs.Responses.{apply_behaviour};
-    ghost use Rattle.apply_path.specs.SessionAt.{SessionAt, HasLeft};
-
-    ghost response = { λ s. apply_behaviour s.setting.now };
-
-    ghost stands = { λ s done. SessionAt s.setting.now s.core s.count done };
-
-    ghost left = { λ s done. HasLeft s.setting.now s.core done };
-
-    fn handle(&mut self, message: &[u8], out: &mut Vec<u8>) -> Handled {
-        let setting = self.setting;
-        match first_fault(&setting.numbering, MessageKind::ModifyRequest, message) {
-            Some(fault) => unreadable(fault),
-            None => {
-                self.count += 1;
-                // The answers go behind those that `out` has.
-                swap(&mut self.writer.out, out);
-                let handled = do_request(
-                    setting,
-                    &mut self.core,
-                    message,
-                    self.count,
-                    &mut self.writer,
-                );
-                swap(&mut self.writer.out, out);
-                handled
-            }
-        }
-    }
-
-    fn leave(&mut self) {
-        let reply = self.core.act(Command::Leave(0));
-        discard_reply(reply);
+/// Does what a request orders, and the turns behind it where no reply ended the stream.
+pub fn do_message<D: Device>(
+    setting: &Setting,
+    core: &mut RibCore,
+    device: &mut D,
+    request: &[u8],
+    number: u64,
+    writer: &mut AnswerWriter,
+) -> Handled
+    requires number { number < 2 ^ 62 }
+    requires stood { (past : List Event) × CoreAt (config_of setting.now) core.old past × TakesTurns (config_of setting.now) past }
+    requires few { core.old.count ≤ 2 ^ 61 }
+    ensures { (past : List Event) (said : List Verdict) → CoreAt (config_of setting.now) core.old past → TakesTurns (config_of setting.now) past
+        → length said ≡ reports past → MessageDone setting.now number request.now past said core.new
+        (device_told D.faults D.contents device.old device.new) result writer.old.out.items writer.new.out.items }
+{
+    others_keep_shard();
+    checked_entries_fit();
+    match do_request(setting, core, request, number, writer) {
+        Handled::Continue => do_turns(&setting.numbering, core, device, number, writer),
+        Handled::Ends(code) => Handled::Ends(code),
+        Handled::Unreadable(place) => Handled::Unreadable(place),
+        Handled::NoMemory => Handled::NoMemory,
     }
 }

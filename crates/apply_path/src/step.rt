@@ -1,18 +1,20 @@
-ghost use Rattle.std.specs.Prelude.{◌≡◌, ◌++◌, ◌∷◌, [], List, pos, true, false, IfOk, OnOk, OnErr, IsTrue};
-ghost use Rattle.modify_core.specs.Built.{is_built};
-ghost use Rattle.modify_core.specs.Ends.{end_reply};
+ghost use Rattle.std.specs.Prelude.{◌≡◌, ◌++◌, ◌∷◌, [], List, pos, true, false, IfOk, OnOk, OnErr};
+ghost use Rattle.rib_core.specs.Ends.{end_reply};
 ghost use Rattle.table_model.specs.Reply.{operate_reply};
 ghost use Rattle.table_model.specs.Event.{Event, is_no_memory};
 ghost use Rattle.table_model.specs.declared.command.Config.{Config};
 ghost use Rattle.apply_path.specs.History.{is_operate, id_of, moment_of, response_item, status_code_by as status_code_spec};
-ghost use Rattle.apply_path.specs.SessionAt.{CoreAt, AnswersReply, Replied, RunsCommands};
+ghost use Rattle.apply_path.specs.SessionAt.{AnswersReply, Replied, RunsCommands, Collects, CollectsAll};
+ghost use Rattle.inline_worker.specs.CoreAt.{CoreAt};
+ghost use Rattle.inline_worker.specs.Turns.{outstanding_in};
 
 use aft_entries::Reason;
 use call_answers::{append_answer, append_operation_result, end_of};
 use message_run::{Handled, append_item};
-use modify_core::{OperateEnd, RibCore};
+use rib_core::{OperateEnd, RibCore};
 use schema_numbers::Numbering;
 use std::alloc::{AllocError, Global};
+use table_laws::outstanding_is_owed;
 use table_model::{Command, Operation, Reply};
 
 /// How many events a table of `apply` has before it takes no more: an input's bytes give far fewer.
@@ -139,10 +141,18 @@ pub fn answer_operation(
     match end {
         OperateEnd::Done => answer_result(n, id, now, None, writer),
         OperateEnd::Failed(reason) => answer_result(n, id, now, Some(reason), writer),
+        OperateEnd::Stopped => answer_stopped(n, id, now, writer),
         OperateEnd::Gone => answer_gone(n, id, now, writer),
         OperateEnd::NoParams => answer_without_params(n, id, now, writer),
         OperateEnd::NoMemory => Handled::NoMemory,
     }
+}
+
+#[inline(never)]
+fn answer_stopped(n: &Numbering, id: u64, now: i64, writer: &mut AnswerWriter) -> Handled
+    ensures { AnswersReply n.now true id now Reply.Stopped result writer.old.out.items writer.new.out.items }
+{
+    answer_reply(n, true, id, now, &Reply::Stopped, writer)
 }
 
 #[inline(never)]
@@ -184,7 +194,6 @@ fn discard(command: Command) {
 // The reply to a command, unless there is no room for another event.
 #[inline(always)]
 fn reply_to(core: &mut RibCore, command: Command) -> Reply
-    requires { IsTrue (is_built command) }
     ensures room { Replied core.old command result core.new }
 {
     if core.events() >= MAX_EVENTS {
@@ -192,6 +201,40 @@ fn reply_to(core: &mut RibCore, command: Command) -> Reply
         return Reply::NoMemory;
     }
     core.act(command)
+}
+
+// How much a Collect tells to be outstanding behind it.
+fn outstanding(reply: &Reply) -> u64
+    ensures { result ≡ outstanding_in reply.now }
+{
+    match reply {
+        Reply::Collected(_, outstanding) => *outstanding,
+        _ => 0,
+    }
+}
+
+/// The session collects until nothing is outstanding, and the results are appended.
+pub fn collect_all(n: &Numbering, core: &mut RibCore, writer: &mut AnswerWriter) -> Handled
+    requires rest { (config : Config) × (past : List Event) × CoreAt config core.old past × Collects config past }
+    ensures { (config : Config) (past : List Event) → CoreAt config core.old past → Collects config past
+        → CollectsAll n.now config past core.new result writer.old.out.items writer.new.out.items }
+{
+    outstanding_is_owed();
+    loop {
+        let reply = reply_to(core, Command::Collect(0));
+        let left = outstanding(&reply);
+        let answered = answer_reply(n, false, 0, 0, &reply, writer);
+        discard_reply(reply);
+        match answered {
+            Handled::Continue => {}
+            Handled::Ends(code) => return Handled::Ends(code),
+            Handled::Unreadable(place) => return Handled::Unreadable(place),
+            Handled::NoMemory => return Handled::NoMemory,
+        }
+        if left == 0 {
+            return Handled::Continue;
+        }
+    }
 }
 
 /// Lets a reply go.
@@ -206,7 +249,6 @@ pub fn do_command(
     command: Command,
     writer: &mut AnswerWriter,
 ) -> Handled
-    requires built { IsTrue (is_built command) }
     requires names { (false ≡ is_operate command) × (0 ≡ id_of command) × (pos 0 ≡ moment_of command) }
     requires stood { (config : Config) × (past : List Event) × CoreAt config core.old past }
     ensures { RunsCommands n.now core.old core.new (command ∷ []) result writer.old.out.items writer.new.out.items }

@@ -1,8 +1,11 @@
-//! The program `gribi`: its real streams, handed to `gribi_main`.
+//! The program `gribi`: its real streams, clock and devices, handed to `gribi_main`.
 #![tactic(auto)]
 
-use gribi_program::{ReaderSource, WriterSink, gribi_main};
-use std::alloc::Global;
+ghost use Rattle.std.specs.Prelude.{◌≡◌, IfOk, vec_len};
+
+use aft_entries::MemDevice;
+use gribi_program::{ReaderSource, SystemClock, WriterSink, gribi_main};
+use std::alloc::{AllocError, Global};
 use std::process::ExitCode;
 use std::{env, io};
 
@@ -17,6 +20,17 @@ fn words_of(rt: &HostRuntime, alloc: Global) -> io::Result<Vec<String>> {
     Ok(words)
 }
 
+// The devices that are programmed, which are empty.
+fn devices(alloc: Global) -> Result<Vec<MemDevice>, AllocError>
+    ensures { IfOk result (λ devices. vec_len devices ≡ 16) }
+{
+    let mut devices = Vec::new(alloc);
+    for _ in 0..16 {
+        devices.push(MemDevice::new(alloc, Vec::new(alloc)))?;
+    }
+    Ok(devices)
+}
+
 fn main(rt: HostRuntime) -> ExitCode {
     let alloc = rt.alloc();
     let words = match words_of(&rt, alloc) {
@@ -27,5 +41,17 @@ fn main(rt: HostRuntime) -> ExitCode {
     };
     let mut input = ReaderSource::new(rt.reader());
     let mut output = WriterSink::new(io::writer(&rt));
-    ExitCode::from(gribi_main(alloc, &words, &mut input, &mut output))
+    let mut clock = SystemClock::new(&rt);
+    let Ok(mut devices) = devices(alloc) else {
+        return ExitCode::from(NO_MEMORY);
+    };
+    let status = gribi_main(
+        alloc,
+        &words,
+        &mut input,
+        &mut output,
+        devices.as_mut_slice(),
+        &mut clock,
+    );
+    ExitCode::from(status)
 }

@@ -1,4 +1,5 @@
 pub mod MessageTraces
+pub mod Agreeing
 pub mod Streams
 pub mod Feeding
 pub mod Sinks

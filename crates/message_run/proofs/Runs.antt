@@ -12,7 +12,7 @@ use Rattle.grpc_framing.proofs.Streams.{messages_of-need_more}
 use Rattle.message_run.specs.Behaviour.{Behaviour, MessageTrace, trace_from}
 use Rattle.message_run.specs.Outcomes.{Close, Complete, Unreadable, Outcome, messages_in, outcome_at, outcome_of, close_at_rest, IsGoingOn, MAX_MESSAGE_SIZE, MAX_INPUT_SIZE}
 use Rattle.message_run.specs.Written.{Wrote, WrotePart}
-use Rattle.message_run.specs.Reading.{RunContinues, RunStops, Stopped, IsOfPieces, close_of, with_prefix, stop_at}
+use Rattle.message_run.specs.Reading.{RunContinues, RunStops, HandlesPiece, Stopped, IsOfPieces, close_of, with_prefix, stop_at}
 use Rattle.message_run.specs.Runs.{Told}
 use Rattle.message_run.specs.declared.stop.Stop.{Stop}
 use Rattle.message_run.specs.declared.stop.Stop.TheVariants as why
@@ -200,10 +200,10 @@ written_is : (f : Behaviour) (count : ℕ) (cut : Messages) → (outcome_at f co
 written_is f count cut = ap (λ (x : Outcome). x.written) (outcome_is f count cut (trace_from f [] cut.messages) refl)
 
 -- the messages of the piece stop the run
-pub stopped_by : (f : Behaviour) (stands later : List (List ℕ) → Type 0) (stop : Stop) (told : Told) (held piece : List ℕ) (count : ℕ) (taken left after : Option (List ℕ)) (h : IsRunning f stands told held count)
+pub stopped_by : (g f : Behaviour) (stands later : List (List ℕ) → Type 0) (stop : Stop) (told : Told) (held piece : List ℕ) (count : ℕ) (taken left after : Option (List ℕ)) (h : IsRunning g stands told held count)
     → taken ≡ option_map (λ given. given ++ piece) told.source.taken_after → told.source.left_after ≡ option_map (λ rest. piece ++ rest) left → count + length piece ≤ MAX_INPUT_SIZE → RunStops f later (h.bytes ++ piece) told.sink.before stop after → IsOfPieces stop
     → Stopped f later stop (then_told told taken left after)
-stopped_by f stands later stop told held piece count taken left after h t l le s kind =
+stopped_by g f stands later stop told held piece count taken left after h t l le s kind =
     let bytes = h.bytes ++ piece in
     let short : length bytes ≤ MAX_INPUT_SIZE = omega (arith, length-append h.bytes piece, h.count, le) in
     let written : (outcome_of f bytes).written ≡ (trace_from f [] (messages_of MAX_MESSAGE_SIZE bytes).messages).written
@@ -226,12 +226,12 @@ stopped_by f stands later stop told held piece count taken left after h t l le s
       answers = subst (λ (x : List ℕ). WrotePart told.sink.before x after) (sym written) s.part;
     }
 
-pub running_on : (f : Behaviour) (stands later : List (List ℕ) → Type 0) (told : Told) (held held' piece : List ℕ) (count : ℕ) (taken left after : Option (List ℕ)) (h : IsRunning f stands told held count)
+pub running_on : (g f : Behaviour) (stands later : List (List ℕ) → Type 0) (told : Told) (held held' piece : List ℕ) (count : ℕ) (taken left after : Option (List ℕ)) (h : IsRunning g stands told held count)
     → taken ≡ option_map (λ given. given ++ piece) told.source.taken_after → told.source.left_after ≡ option_map (λ rest. piece ++ rest) left → count + length piece ≤ MAX_INPUT_SIZE → RunContinues f later (h.bytes ++ piece) held' told.sink.before after
     → IsRunning f later (then_told told taken left after) held' (count + length piece)
-running_on f stands later told held held' piece count taken left after h t l le g = record {
+running_on g f stands later told held held' piece count taken left after h t l le more = record {
   bytes = h.bytes ++ piece;
-  on = g;
+  on = more;
   taken_is = taken_more told.source.taken_before told.source.taken_after taken h.bytes piece h.taken_is t;
   left_is = left_more told.source.left_before told.source.left_after left h.bytes piece h.left_is l;
   count = omega (arith, length-append h.bytes piece, h.count);
@@ -253,20 +253,12 @@ running_first f stands taken left placed h = record {
   short = omega arith;
 }
 
--- ---- the same of a server whose answering is the first one's
+-- ---- with a behaviour that shows as messages are done
 
-pub stopped_by_piece : (f g : Behaviour) → g ≡ f → (stands later : List (List ℕ) → Type 0) (stop : Stop) (told : Told) (held piece : List ℕ) (count : ℕ) (taken left after : Option (List ℕ)) → IsRunning f stands told held count
-    → taken ≡ option_map (λ given. given ++ piece) told.source.taken_after → told.source.left_after ≡ option_map (λ rest. piece ++ rest) left → count + length piece ≤ MAX_INPUT_SIZE
-    → ((bytes : List ℕ) → (before : Option (List ℕ)) → RunContinues g stands bytes held before told.sink.after → length bytes ≡ count → RunStops g later (bytes ++ piece) before stop after) → IsOfPieces stop
-    → Stopped f later stop (then_told told taken left after)
-stopped_by_piece f g same stands later stop told held piece count taken left after h t l le stops kind =
-    let on = subst (λ (x : Behaviour). RunContinues x stands h.bytes held told.sink.before told.sink.after) (sym same) h.on in
-    stopped_by f stands later stop told held piece count taken left after h t l le (subst (λ (x : Behaviour). RunStops x later (h.bytes ++ piece) told.sink.before stop after) same (stops h.bytes told.sink.before on h.count)) kind
+module _ (f : Behaviour) (stands : List (List ℕ) → Type 0) (shows : Behaviour → Type 0) (later : Behaviour → List (List ℕ) → Type 0) (told : Told) (held piece : List ℕ) (count : ℕ) (taken left after : Option (List ℕ)) (h : IsRunning f stands told held count)
+    (t : taken ≡ option_map (λ given. given ++ piece) told.source.taken_after) (l : told.source.left_after ≡ option_map (λ rest. piece ++ rest) left) (le : count + length piece ≤ MAX_INPUT_SIZE) (held' : List ℕ) where
+  pub stopped_by_piece : (stop : Stop) → HandlesPiece shows later (Some stop) (h.bytes ++ piece) held' told.sink.before after → IsOfPieces stop → (g : Behaviour) × shows g × Stopped g (later g) stop (then_told told taken left after)
+  stopped_by_piece stop p kind = (p.behaviour, p.shown, stopped_by f p.behaviour stands (later p.behaviour) stop told held piece count taken left after h t l le p.cases kind)
 
-pub running_by_piece : (f g : Behaviour) → g ≡ f → (stands later : List (List ℕ) → Type 0) (told : Told) (held held' piece : List ℕ) (count : ℕ) (taken left after : Option (List ℕ)) → IsRunning f stands told held count
-    → taken ≡ option_map (λ given. given ++ piece) told.source.taken_after → told.source.left_after ≡ option_map (λ rest. piece ++ rest) left → count + length piece ≤ MAX_INPUT_SIZE
-    → ((bytes : List ℕ) → (before : Option (List ℕ)) → RunContinues g stands bytes held before told.sink.after → length bytes ≡ count → RunContinues g later (bytes ++ piece) held' before after)
-    → IsRunning f later (then_told told taken left after) held' (count + length piece)
-running_by_piece f g same stands later told held held' piece count taken left after h t l le goes =
-    let on = subst (λ (x : Behaviour). RunContinues x stands h.bytes held told.sink.before told.sink.after) (sym same) h.on in
-    running_on f stands later told held held' piece count taken left after h t l le (subst (λ (x : Behaviour). RunContinues x later (h.bytes ++ piece) held' told.sink.before after) same (goes h.bytes told.sink.before on h.count))
+  pub running_by_piece : HandlesPiece shows later None (h.bytes ++ piece) held' told.sink.before after → (g : Behaviour) × shows g × IsRunning g (later g) (then_told told taken left after) held' (count + length piece)
+  running_by_piece p = (p.behaviour, p.shown, running_on f p.behaviour stands (later p.behaviour) told held held' piece count taken left after h t l le p.cases)

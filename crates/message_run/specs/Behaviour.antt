@@ -18,6 +18,11 @@ pub record Response : Type 0 where
 abbrev pub Behaviour : Type 0
 Behaviour = List (List ℕ) → List ℕ → Response
 
+-- two behaviours come to the same at each of these messages, after those before them
+abbrev pub AgreesAt : Behaviour → Behaviour → List (List ℕ) → List (List ℕ) → Type 0
+AgreesAt f g done [] = Unit {0}
+AgreesAt f g done (m ∷ ms) = (f done m ≡ g done m) × AgreesAt f g (done ++ m ∷ []) ms
+
 -- ---- messages in a row
 
 -- the messages that were done, all that was written, and how a message ended the stream
@@ -59,3 +64,12 @@ HandledAfter stands done m Continue = stands (done ++ m ∷ [])
 HandledAfter stands done m (Ends code) = stands (done ++ m ∷ [])
 HandledAfter stands done m (Unreadable place) = stands done
 HandledAfter stands done m NoMemory = Unit {0}
+
+-- A message is handled by a behaviour that may be known only then: it is the one so far at the messages that are done.
+pub record HandlesMessage (shows : Behaviour → Type 0) (stands : Behaviour → List (List ℕ) → Type 0) (so_far : Behaviour)
+    (done : List (List ℕ)) (message : List ℕ) (answer : Handled) (before after : List ℕ) : Type 0 where
+  pub behaviour : Behaviour
+  pub shown : shows behaviour
+  pub agrees : AgreesAt so_far behaviour [] done
+  pub appends : Appends (behaviour done message) answer before after
+  pub stood : HandledAfter (stands behaviour) done message answer

@@ -1,5 +1,6 @@
 -- What a server has made of the bytes so far.
-use Rattle.std.specs.Prelude.{◌≡◌, ℕ, ◌+◌, ◌-◌, ◌≤◌, ◌==◌, List, [], ◌++◌, length, Option, Some, None, IfSome, if◌then◌else◌}
+use Rattle.std.specs.Prelude.{◌≡◌, ℕ, ◌+◌, ◌-◌, ◌≤◌, ◌==◌, List, [], ◌++◌, length, if◌then◌else◌}
+use Rattle.std.specs.Prelude.{Option, Some, None, IfSome, IfNone, MatchOption}
 use Rattle.std.specs.Option.{option_map}
 use Rattle.grpc_framing.specs.Framing.{front_at, messages_of, all_then, items}
 use Rattle.message_run.specs.Behaviour.{Behaviour, MessageTrace, trace_from}
@@ -66,6 +67,15 @@ abbrev pub ClosesIfSome : Behaviour → (List (List ℕ) → Type 0) → List �
 ClosesIfSome f stands bytes written None = Unit {0}
 ClosesIfSome f stands bytes written (Some close) = Closes f stands bytes written close
 
+-- What becomes of bytes that a server is handed, message by message, with a behaviour that shows then.
+pub record FeedsBytes (shows : Behaviour → Type 0) (stands : Behaviour → List (List ℕ) → Type 0) (stop : Option Stop)
+    (bytes held written : List ℕ) : Type 0 where
+  pub behaviour : Behaviour
+  pub shown : shows behaviour
+  pub reads : IfNone stop (HandledSoFar behaviour (stands behaviour) bytes held written)
+  pub stops : IfSome stop (λ why. ClosesIfSome behaviour (stands behaviour) bytes written (close_of why))
+  pub begins : AnswersBegin behaviour bytes written
+
 -- The run goes on behind these bytes: the answers to all but the held ones were written.
 pub record RunContinues (f : Behaviour) (stands : List (List ℕ) → Type 0) (bytes held : List ℕ) (before now : Option (List ℕ)) : Type 0 where
   pub sent : List ℕ
@@ -78,6 +88,14 @@ pub record RunStops (f : Behaviour) (stands : List (List ℕ) → Type 0) (bytes
     (now : Option (List ℕ)) : Type 0 where
   pub part : WrotePart before (trace_from f [] (messages_of MAX_MESSAGE_SIZE bytes).messages).written now
   pub closes : (close : Close) → close_of stop ≡ Some close → (sent : List ℕ) × Closes f stands bytes sent close × Wrote before sent now
+
+-- The run goes on behind these bytes or stops there, with a behaviour that shows then.
+pub record HandlesPiece (shows : Behaviour → Type 0) (stands : Behaviour → List (List ℕ) → Type 0) (stop : Option Stop)
+    (bytes held : List ℕ) (before now : Option (List ℕ)) : Type 0 where
+  pub behaviour : Behaviour
+  pub shown : shows behaviour
+  pub cases : MatchOption stop (RunContinues behaviour (stands behaviour) bytes held before now)
+      (λ why. RunStops behaviour (stands behaviour) bytes before why now)
 
 -- The run has stopped, and its last item is still to be written.
 pub record Stopped (f : Behaviour) (stands : List (List ℕ) → Type 0) (stop : Stop) (told : Told) : Type 0 where

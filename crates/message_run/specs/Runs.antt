@@ -76,3 +76,10 @@ pub record RunsOver (f : Behaviour) (has_done has_left : List (List ℕ) → Typ
   pub answers : (status ≡ 4) ⊎ (status ≡ 6) → WrotePart told.sink.before (outcome_of f taken).written told.sink.after
   -- always: what was written is the first of what is to be written for the bytes taken
   pub part : WrotePart told.sink.before (output_of f taken) told.sink.after
+
+-- A run of a server whose behaviour shows in it; and over the input, where the source tells it.
+pub record RunsSomehow (shows : Behaviour → Type 0) (has_done has_left : Behaviour → List (List ℕ) → Type 0) (status : ℕ) (told : Told) : Type 0 where
+  pub behaviour : Behaviour
+  pub shown : shows behaviour
+  pub runs : Runs behaviour (has_done behaviour) (has_left behaviour) status told
+  pub over : (input : List ℕ) → told.source.left_before ≡ Some input → RunsOver behaviour (has_done behaviour) (has_left behaviour) status input told

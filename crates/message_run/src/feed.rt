@@ -1,8 +1,9 @@
 ghost use Rattle.std.specs.Prelude.{◌≡◌, ◌+◌, ◌<◌, ◌≤◌, ◌^◌, ◌++◌, List, ℕ, length, drop, IfSome, IfNone};
 ghost use Rattle.grpc_framing.specs.declared.front.Front.TheVariants.{NeedMore};
 ghost use Rattle.grpc_framing.specs.Framing.{front_at};
+ghost use Rattle.message_run.specs.Behaviour.{Behaviour};
 ghost use Rattle.message_run.specs.Outcomes.{MAX_MESSAGE_SIZE};
-ghost use Rattle.message_run.specs.Reading.{HandledSoFar, AnswersBegin, ClosesIfSome, IsOfMessages, close_of};
+ghost use Rattle.message_run.specs.Reading.{HandledSoFar, FeedsBytes, IsOfMessages};
 
 use crate::message_handler::{Handled, MessageHandler};
 use crate::stop::Stop;
@@ -32,24 +33,16 @@ pub fn feed<A: MessageHandler>(
     held: &mut Vec<u8>,
     out: &mut Vec<u8>,
 ) -> Option<Stop>
-    requires reads { (bytes sent : List ℕ) ×
-        HandledSoFar (A.response server.old) (A.stands server.old) bytes held.old.items (sent ++ out.old.items)
+    requires reads { (so_far : Behaviour) × (bytes sent : List ℕ) × A.shows server.old so_far ×
+        HandledSoFar so_far (A.stands server.old so_far) bytes held.old.items (sent ++ out.old.items)
         × (length bytes ≡ start + length held.old.items) }
     requires short { start + length held.old.items < 2 ^ 61 }
-    ensures response { A.response server.new ≡ A.response server.old }
-    ensures reads { (bytes sent : List ℕ) →
-        HandledSoFar (A.response server.old) (A.stands server.old) bytes held.old.items (sent ++ out.old.items) →
+    ensures became { (first : A) → A.became first server.old → A.became first server.new }
+    ensures feeds { (so_far : Behaviour) (bytes sent : List ℕ) → A.shows server.old so_far →
+        HandledSoFar so_far (A.stands server.old so_far) bytes held.old.items (sent ++ out.old.items) →
         length bytes ≡ start + length held.old.items →
-        IfNone result (HandledSoFar (A.response server.old) (A.stands server.new) bytes held.new.items (sent ++ out.new.items)) }
+        FeedsBytes (A.shows server.new) (A.stands server.new) result bytes held.new.items (sent ++ out.new.items) }
     ensures partial { IfNone result (front_at MAX_MESSAGE_SIZE held.new.items ≡ NeedMore) }
-    ensures stops { (bytes sent : List ℕ) →
-        HandledSoFar (A.response server.old) (A.stands server.old) bytes held.old.items (sent ++ out.old.items) →
-        length bytes ≡ start + length held.old.items →
-        IfSome result (λ stop. ClosesIfSome (A.response server.old) (A.stands server.new) bytes (sent ++ out.new.items) (close_of stop)) }
-    ensures begins { (bytes sent : List ℕ) →
-        HandledSoFar (A.response server.old) (A.stands server.old) bytes held.old.items (sent ++ out.old.items) →
-        length bytes ≡ start + length held.old.items →
-        AnswersBegin (A.response server.old) bytes (sent ++ out.new.items) }
     ensures kinds { IfSome result IsOfMessages }
 {
     let mut at = 0;

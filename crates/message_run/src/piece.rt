@@ -1,6 +1,7 @@
-ghost use Rattle.std.specs.Prelude.{◌≡◌, ◌+◌, ◌<◌, ◌^◌, ◌++◌, List, ℕ, Option, length, MatchOption, IfSome, Some};
+ghost use Rattle.std.specs.Prelude.{◌≡◌, ◌+◌, ◌<◌, ◌^◌, ◌++◌, List, ℕ, Option, length, IfSome, Some};
 ghost use Rattle.rig_io.specs.Fault.{HasCause, StaysUnless};
-ghost use Rattle.message_run.specs.Reading.{RunContinues, RunStops, IsOfPieces};
+ghost use Rattle.message_run.specs.Behaviour.{Behaviour};
+ghost use Rattle.message_run.specs.Reading.{RunContinues, HandlesPiece, IsOfPieces};
 ghost use Rattle.message_run.specs.declared.stop.Stop.TheVariants.{WriteFault};
 
 use crate::feed::feed;
@@ -18,15 +19,14 @@ pub fn handle_chunk<A: MessageHandler, K: Sink>(
     out: &mut Vec<u8>,
     output: &mut K,
 ) -> Option<Stop>
-    requires goes { (bytes : List ℕ) × (before : Option (List ℕ)) ×
-        RunContinues (A.response server.old) (A.stands server.old) bytes held.old.items before (K.placed output.old)
+    requires goes { (so_far : Behaviour) × (bytes : List ℕ) × (before : Option (List ℕ)) × A.shows server.old so_far ×
+        RunContinues so_far (A.stands server.old so_far) bytes held.old.items before (K.placed output.old)
         × (length bytes ≡ taken) }
     requires short { taken + length piece.now < 2 ^ 61 }
-    ensures response { A.response server.new ≡ A.response server.old }
-    ensures cases { (bytes : List ℕ) → (before : Option (List ℕ)) →
-        RunContinues (A.response server.old) (A.stands server.old) bytes held.old.items before (K.placed output.old) → length bytes ≡ taken →
-        MatchOption result (RunContinues (A.response server.old) (A.stands server.new) (bytes ++ piece.now) held.new.items before (K.placed output.new))
-        (λ stop. RunStops (A.response server.old) (A.stands server.new) (bytes ++ piece.now) before stop (K.placed output.new)) }
+    ensures became { (first : A) → A.became first server.old → A.became first server.new }
+    ensures cases { (so_far : Behaviour) (bytes : List ℕ) (before : Option (List ℕ)) → A.shows server.old so_far →
+        RunContinues so_far (A.stands server.old so_far) bytes held.old.items before (K.placed output.old) → length bytes ≡ taken →
+        HandlesPiece (A.shows server.new) (A.stands server.new) result (bytes ++ piece.now) held.new.items before (K.placed output.new) }
     ensures kinds { IfSome result IsOfPieces }
     ensures cause { HasCause (K.faults output.old) (K.faults output.new) (result ≡ Some WriteFault) }
     ensures stays { StaysUnless (K.faults output.old) (K.faults output.new) (result ≡ Some WriteFault) }

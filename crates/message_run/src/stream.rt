@@ -1,8 +1,10 @@
-ghost use Rattle.std.specs.Prelude.{◌≡◌, ◌⊎◌, ◌+◌, ◌<◌, ◌≤◌, ◌^◌, [], List, ℕ, Some, None, IfOk, length, vec_len, ◌==◌, if◌then◌else◌};
+ghost use Rattle.std.specs.Prelude.{◌≡◌, ◌⊎◌, ◌+◌, ◌<◌, ◌≤◌, ◌^◌, [], List, ℕ, Some, None, IfOk};
+ghost use Rattle.std.specs.Prelude.{length, vec_len, ◌==◌, if◌then◌else◌};
 ghost use Rattle.rig_io.specs.Fault.{HasCause, StaysUnless};
+ghost use Rattle.message_run.specs.Behaviour.{Behaviour};
 ghost use Rattle.message_run.specs.Outcomes.{Close, trailer as trailer_spec};
 ghost use Rattle.message_run.specs.Reading.{Stopped, close_of, stop_at as stop_said};
-ghost use Rattle.message_run.specs.Runs.{Runs, RunsOver, IsStatus, told};
+ghost use Rattle.message_run.specs.Runs.{Runs, RunsSomehow, IsStatus, told};
 ghost use Rattle.message_run.specs.Written.{Wrote, WrotePart};
 ghost use Rattle.message_run.specs.declared.stop.Stop.TheVariants.{ReadFault, WriteFault};
 
@@ -47,11 +49,11 @@ fn handle_stream<A: MessageHandler, S: Source, K: Sink>(
     input: &mut S,
     output: &mut K,
 ) -> Stop
-    requires first { A.stands server.old [] }
+    requires first { (f : Behaviour) × A.shows server.old f × A.stands server.old f [] }
     requires room { length buffer.old ≡ 65536 }
-    ensures response { A.response server.new ≡ A.response server.old }
-    ensures stopped { Stopped (A.response server.old) (A.stands server.new) result
-        (told S.taken S.left K.placed input.old input.new output.old output.new) }
+    ensures became { (first : A) → A.became first server.old → A.became first server.new }
+    ensures stopped { (f : Behaviour) → A.shows server.old f → A.stands server.old f [] → (g : Behaviour) × A.shows server.new g ×
+        Stopped g (A.stands server.new g) result (told S.taken S.left K.placed input.old input.new output.old output.new) }
     ensures read { HasCause (S.faults input.old) (S.faults input.new) (result ≡ ReadFault) }
     ensures read_stays { StaysUnless (S.faults input.old) (S.faults input.new) (result ≡ ReadFault) }
     ensures write { HasCause (K.faults output.old) (K.faults output.new) (result ≡ WriteFault) }
@@ -81,10 +83,12 @@ fn handle_stream<A: MessageHandler, S: Source, K: Sink>(
 
 // The server leaves where the run closes.
 fn leave_at<A: MessageHandler>(server: &mut A, stop: Stop)
-    requires { (close : Close) → close_of stop ≡ Some close → (done : List (List ℕ)) × A.stands server.old done × (length done < 2 ^ 61) }
-    ensures response { A.response server.new ≡ A.response server.old }
-    ensures left { (close : Close) → close_of stop ≡ Some close → (done : List (List ℕ)) →
-        A.stands server.old done → length done < 2 ^ 61 → A.left server.new done }
+    requires { (close : Close) → close_of stop ≡ Some close →
+        (f : Behaviour) × (done : List (List ℕ)) × A.stands server.old f done × (length done < 2 ^ 61) }
+    ensures left { (close : Close) → close_of stop ≡ Some close → (f : Behaviour) (done : List (List ℕ)) →
+        A.stands server.old f done → length done < 2 ^ 61 → A.left server.new f done }
+    ensures became { (first : A) → A.became first server.old → A.became first server.new }
+    ensures shown { (f : Behaviour) → A.shows server.old f → A.shows server.new f }
     ensures stays { close_of stop ≡ None → server.new ≡ server.old }
 {
     if stop.closes() {
@@ -116,10 +120,11 @@ fn run_in<A: MessageHandler, S: Source, K: Sink>(
     input: &mut S,
     output: &mut K,
 ) -> u8
-    requires first { A.stands server.old [] }
+    requires first { (f : Behaviour) × A.shows server.old f × A.stands server.old f [] }
     requires room { length buffer.old ≡ 65536 }
-    ensures response { A.response server.new ≡ A.response server.old }
-    ensures runs { Runs (A.response server.old) (A.stands server.new) (A.left server.new) result
+    ensures became { (first : A) → A.became first server.old → A.became first server.new }
+    ensures runs { (f : Behaviour) → A.shows server.old f → A.stands server.old f [] → (g : Behaviour) × A.shows server.new g
+        × Runs g (A.stands server.new g) (A.left server.new g) result
         (told S.taken S.left K.placed input.old input.new output.old output.new) }
     ensures status { IsStatus result }
     ensures read { HasCause (S.faults input.old) (S.faults input.new) (result ≡ 4) }
@@ -153,14 +158,12 @@ pub fn run<A: MessageHandler, S: Source, K: Sink>(
     input: &mut S,
     output: &mut K,
 ) -> u8
-    requires first { A.stands server.old [] }
-    ensures response { A.response server.new ≡ A.response server.old }
-    // What is written is a function of the bytes that were taken, whether or not the source tells what is left.
-    ensures runs { Runs (A.response server.old) (A.stands server.new) (A.left server.new) result
-        (told S.taken S.left K.placed input.old input.new output.old output.new) }
-    // Where the source tells its input, it is a function of the input.
-    ensures over { (all : List ℕ) → S.left input.old ≡ Some all →
-        RunsOver (A.response server.old) (A.stands server.new) (A.left server.new) result all
+    requires first { (f : Behaviour) × A.shows server.old f × A.stands server.old f [] }
+    // What is written is a function of the bytes that were taken and of the behaviour that showed, whether or not the source tells
+    // what is left. Where it tells its input, it is a function of the input.
+    ensures became { (first : A) → A.became first server.old → A.became first server.new }
+    ensures runs { (f : Behaviour) → A.shows server.old f → A.stands server.old f []
+        → RunsSomehow (A.shows server.new) (A.stands server.new) (A.left server.new) result
         (told S.taken S.left K.placed input.old input.new output.old output.new) }
     ensures status { IsStatus result }
     // No failure is hidden: a status but 4 leaves the input's faults, and one but 5 the output's.

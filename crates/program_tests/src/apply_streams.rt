@@ -1,6 +1,9 @@
 use crate::session_orders::setting;
-use apply_path::{Session, answers_match_the_server, apply_stream, write_all};
-use message_run::{Handled, MessageHandler};
+use aft_entries::MemDevice;
+use apply_path::{
+    answers_match_the_server, apply_stream, histories_are_lawful, output_rests_on_the_input,
+    write_all,
+};
 use rig_io::{MemSink, MemSource};
 use std::test::Fail;
 
@@ -17,7 +20,10 @@ fn instances_are_those_of_the_setting(rt: HostRuntime) -> Result<(), Fail> {
     let setting = setting(alloc, &["DEFAULT", "BLUE"])?;
     let mut source = MemSource::new(Vec::from_slice(alloc, INPUT)?, Vec::new(alloc));
     let mut sink = MemSink::new(alloc, Vec::new(alloc));
-    assert_eq!(rt; apply_stream(alloc, &setting, &mut source, &mut sink), 0);
+    let mut device = MemDevice::new(alloc, Vec::new(alloc));
+    let status = apply_stream(alloc, &setting, &mut source, &mut sink, &mut device);
+    assert_eq!(rt; status, 0);
+    assert_eq!(rt; device.contents().len(), 2);
     assert_eq!(rt; sink.bytes(), OUTPUT);
     Ok(())
 }
@@ -25,26 +31,32 @@ fn instances_are_those_of_the_setting(rt: HostRuntime) -> Result<(), Fail> {
 #[test]
 fn a_message_goes_on_or_ends_the_stream(rt: HostRuntime) -> Result<(), Fail> {
     let setting = setting(rt.alloc(), &["DEFAULT"])?;
-    let cases: [(&[u8], Handled, &[u8]); 5] = [
-        (b"", Handled::Continue, b""),
-        (b"\x1a\x02\x10\x01\x00\x01", Handled::Unreadable(4), b""),
+    let cases: [(&[u8], u8, &[u8]); 5] = [
+        (b"\0\0\0\0\0", 0, b""),
         (
-            b"\x12\x04\x08\x01\x10\x01",
-            Handled::Continue,
+            b"\0\0\0\0\x06\x1a\x02\x10\x01\x00\x01",
+            3,
+            b"\x81\0\0\0\x019",
+        ),
+        (
+            b"\0\0\0\0\x06\x12\x04\x08\x01\x10\x01",
+            0,
             b"\0\0\0\0\x04\x12\x02\x08\x01",
         ),
         (
-            b"\x12\x04\x08\x01\x10\x01\x1a\x00",
-            Handled::Ends(3),
-            b"\0\0\0\0\x04\x12\x02\x08\x01",
+            b"\0\0\0\0\x08\x12\x04\x08\x01\x10\x01\x1a\x00",
+            7,
+            b"\0\0\0\0\x04\x12\x02\x08\x01\x80\0\0\0\x013",
         ),
-        (b"\x12\x00", Handled::Ends(12), b""),
+        (b"\0\0\0\0\x02\x12\x00", 7, b"\x80\0\0\0\x0212"),
     ];
-    for (message, wanted, answers) in cases {
-        let mut session = Session::new(rt.alloc(), &setting)?;
-        let mut out = Vec::new(rt.alloc());
-        assert_eq!(rt; session.handle(message, &mut out), wanted);
-        assert_eq!(rt; out.as_slice(), answers);
+    for (input, wanted, answers) in cases {
+        let mut source = MemSource::new(Vec::from_slice(rt.alloc(), input)?, Vec::new(rt.alloc()));
+        let mut sink = MemSink::new(rt.alloc(), Vec::new(rt.alloc()));
+        let mut device = MemDevice::new(rt.alloc(), Vec::new(rt.alloc()));
+        let status = apply_stream(rt.alloc(), &setting, &mut source, &mut sink, &mut device);
+        assert_eq!(rt; status, wanted);
+        assert_eq!(rt; sink.bytes(), answers);
     }
     Ok(())
 }
@@ -52,6 +64,8 @@ fn a_message_goes_on_or_ends_the_stream(rt: HostRuntime) -> Result<(), Fail> {
 #[test]
 fn answers_stand_in_the_output(rt: HostRuntime) -> Result<(), Fail> {
     answers_match_the_server();
+    histories_are_lawful();
+    output_rests_on_the_input();
     let mut sink = MemSink::new(rt.alloc(), Vec::new(rt.alloc()));
     assert!(rt; write_all(&mut sink, b"abc"));
     assert_eq!(rt; sink.bytes(), b"abc".as_slice());

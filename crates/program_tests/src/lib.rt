@@ -8,6 +8,10 @@ mod apply_streams;
 #[cfg(test)]
 mod chunked_source;
 #[cfg(test)]
+mod devices;
+#[cfg(test)]
+mod fib_results;
+#[cfg(test)]
 mod long_run;
 #[cfg(test)]
 mod message_streams;

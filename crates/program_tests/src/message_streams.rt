@@ -11,18 +11,16 @@ struct Echo {
 }
 
 impl MessageHandler for Echo {
-    ghost use Rattle.std.specs.Prelude.{◌≡◌, ◌∷◌, [], Some, None, true, if◌then◌else◌};
-    ghost use Rattle.std.specs.Str.{bytes_eq};
-    ghost use Rattle.message_run.specs.Behaviour.{Reply, Field};
+    ghost use Rattle.std.specs.Prelude.{◌≡◌, true};
+    ghost use Rattle.program_tests.specs.Echoes.{echo};
 
-    ghost response = { λ _ done message.
-        if bytes_eq message (8 ∷ []) then record { written = []; ending = Some (Field 2) } else
-        if bytes_eq message (9 ∷ []) then record { written = message; ending = Some (Reply 9) } else
-        record { written = message; ending = None } };
+    ghost became = { λ _ _. Unit {0} };
 
-    ghost stands = { λ _ done. Unit {0} };
+    ghost shows = { λ _ f. f ≡ echo };
 
-    ghost left = { λ s done. s.has_left ≡ true };
+    ghost stands = { λ _ f _. f ≡ echo };
+
+    ghost left = { λ s f done. s.has_left ≡ true };
 
     fn handle(&mut self, message: &[u8], out: &mut Vec<u8>) -> Handled {
         if message == b"\x08".as_slice() {

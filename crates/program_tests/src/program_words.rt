@@ -1,4 +1,4 @@
-use gribi_program::gribi_main;
+use crate::devices::run_program;
 use rig_io::{MemSink, MemSource};
 use std::alloc::Global;
 use std::test::Fail;
@@ -32,7 +32,7 @@ fn ends_with(
     let mut input = MemSource::new(bytes, Vec::from_slice(alloc, reads_failing)?);
     let mut output = MemSink::new(alloc, Vec::from_slice(alloc, writes_failing)?);
     let words = words(alloc, all_words)?;
-    let found = gribi_main(alloc, &words, &mut input, &mut output);
+    let found = run_program(alloc, &words, &mut input, &mut output)?;
     Ok(found == status && output.bytes() == wanted)
 }
 

@@ -1,7 +1,7 @@
 use Rattle.std.proofs.Common.{w64, arith, pos}
 use Rattle.std.proofs.lemmas.Int.{to_z_pos}
 use Rattle.table_model.specs.declared.command.Command.TheVariants.{Operate}
-use Rattle.modify_core.specs.Ends.{end_reply}
+use Rattle.rib_core.specs.Ends.{end_reply}
 use Rattle.apply_path.proofs.Steps.{does_one}
 use Rattle.apply_path.proofs.session.do_operation.Goals as goal
 

@@ -1,6 +1,7 @@
-use Rattle.std.proofs.Common.{◌≡◌, List, ℕ, Option, Some}
-use Rattle.apply_path.specs.Responses.{apply_behaviour}
-use Rattle.apply_path.proofs.Runs.{lacks_memory, lacks_memory_over}
+use Rattle.std.proofs.Common.{◌≡◌, List, [], ◌∷◌, ℕ, Option, Some, refl, slice_index_or, slice_set}
+use Rattle.std.specs.Prelude.{slice_get}
+use Rattle.std.proofs.lemmas.Option.{get_or_from_slice_get}
+use Rattle.apply_path.proofs.Applies.{lacks_memory}
 use Rattle.gribi_program.specs.Settings.{setting_with}
 use Rattle.gribi_program.proofs.program.gribi_main.Goals as goal
 
@@ -8,11 +9,14 @@ same_names : (a b : List (List ℕ)) (y x : Option (List (List ℕ))) → y ≡ 
 same_names a b y x is e f = cc
 
 pub returns-in-Err-clause-applies : goal.returns-in-Err-clause-applies
-returns-in-Err-clause-applies g c = λ names e. lacks_memory (apply_behaviour (setting_with names)) _ _ _
+returns-in-Err-clause-applies g c = λ names first e there. rw (get_or_from_slice_get c.args.devices.now 0 first first there) (lacks_memory (setting_with names) _ _ _ _ _)
 
-pub returns-in-Err-clause-over : goal.returns-in-Err-clause-over
-returns-in-Err-clause-over g c = λ names e all left. lacks_memory_over (apply_behaviour (setting_with names)) all _ _ _ left
+-- the first of them, and what it became
+first_set : {X : Type 0} (xs : List X) (new first : X) → slice_get xs 0 ≡ Some first → slice_index_or (slice_set xs 0 new) 0 first ≡ new
+first_set [] new first there = absurd cc
+first_set (x ∷ xs) new first there = refl
 
-pub returns-in-Ok-Some-clause-over : goal.returns-in-Ok-Some-clause-over
-returns-in-Ok-Some-clause-over g c = λ names e all left.
-    rw (← same_names _ _ _ _ c.in-Ok-Some.field-0-is c.in-Ok-Some.ensures e) (c.apply.ensures.over all left)
+pub returns-in-Ok-Some-clause-applies : goal.returns-in-Ok-Some-clause-applies
+returns-in-Ok-Some-clause-applies g c = λ names first e there.
+    let was = get_or_from_slice_get c.args.devices.now 0 first c.index-devices-0.result there in
+    rw (← same_names _ _ _ _ c.in-Ok-Some.field-0-is c.in-Ok-Some.ensures e, first_set c.args.devices.now c.apply.new.device first there, ← was) c.apply.ensures.applies

@@ -1,3 +1,0 @@
-pub mod Replies
-pub mod Steps
-pub mod SessionRecords
