@@ -1,7 +1,7 @@
 //! The program `gribi`: its real streams, clock and devices, handed to `gribi_main`.
 #![tactic(auto)]
 
-ghost use Rattle.std.specs.Prelude.{◌≡◌, IfOk, length};
+ghost use Rattle.std.specs.Prelude.{◌≡◌, IfOk, vec_len};
 
 use aft_entries::MemDevice;
 use gribi_program::{ReaderSource, SystemClock, WriterSink, gribi_main};
@@ -22,10 +22,10 @@ fn words_of(rt: &HostRuntime, alloc: Global) -> io::Result<Vec<String>> {
 
 // The devices that are programmed, which are empty.
 fn devices(alloc: Global) -> Result<Vec<MemDevice>, AllocError>
-    ensures { IfOk result (λ devices. length devices.items ≡ 16) }
+    ensures { IfOk result (λ devices. vec_len devices ≡ 16) }
 {
     let mut devices = Vec::new(alloc);
-    for _ in 0..16 {
+    for _ in 0..16u64 {
         devices.push(MemDevice::new(alloc, Vec::new(alloc)))?;
     }
     Ok(devices)

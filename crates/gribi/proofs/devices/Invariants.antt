@@ -1,6 +1,5 @@
-use Rattle.std.proofs.Common.{◌≡◌, length}
+use Rattle.std.proofs.Common.{◌≡◌, vec_len}
 use Rattle.gribi.proofs.devices.Given as goal
 
--- as many devices as turns
 abbrev pub invariant-loop : goal.invariant-loop
-invariant-loop l = length l.devices.items ≡ l.counter
+invariant-loop l = vec_len l.devices ≡ l.counter
