@@ -1,7 +1,6 @@
--- What the connection gave, and a refusal that it repeats.
+-- A refusal that the connection repeats.
 use Rattle.std.proofs.Common.{◌≡◌, ◌⊎◌, inl, inr, ℕ, true, false, List, [], ◌∷◌, Option, None, refl, sym, ap, subst, ◌∙◌}
 use Rattle.std.specs.Prelude.{not, is_some}
-use Rattle.h2_exchange.specs.Events.{Event}
 use Rattle.h2_exchange.specs.Stops.{Stop}
 use Rattle.http_connection.specs.Answers as conn
 use Rattle.http_connection.specs.ConnectionTrace.{ConnectionTrace, NoMemory, Refusal, Stopped}
@@ -11,13 +10,8 @@ use Rattle.grpc_stream.specs.NextEvent.{NextEvent, RepeatsRefusal}
 use Rattle.call_standing.specs.declared.fate.Fate.{Fate}
 use Rattle.call_standing.specs.declared.fate.Fate.TheVariants.{Going, Refused, Starved, Dead}
 use Rattle.call_standing.specs.Standing.{IsGoing, IsRefused, StandsFor, State}
-use Rattle.call_standing.specs.Steps.{HasHeard}
 
 module _ {C : Type 0} (stands : C → ConnectionTrace → Type 0) (output : C → List ℕ) where
-  pub heard : (old new : C) (s : State) (t : CallTrace) (e : Event) → IsGoing stands output old s t → ((d : ConnectionTrace) × stands new d × conn.GivesEvents t.connection_trace (e ∷ []) d) →
-      HasHeard stands output new s t e
-  heard old new s t e h (d, connected, gives) = record { at = d; connected = connected; gives = gives; alive = h.alive; holds = h.holds; rest = h.rest }
-
   refused_of : (fate : Fate) (old : C) (s : State) (t : CallTrace) → fate ≡ Refused → StandsFor stands output fate old s t → IsRefused stands output old t
   refused_of Refused old s t e h = h
   refused_of Going old s t e h = absurd cc

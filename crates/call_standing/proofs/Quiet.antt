@@ -1,11 +1,11 @@
 -- Steps of which nothing is shown, and what is told behind them.
-use Rattle.std.proofs.Common.{◌≡◌, ◌⊎◌, inl, inr, List, [], ◌∷◌, ◌++◌, Option, Some, None, refl, sym, ap, subst, ◌∙◌, append_assoc}
+use Rattle.std.proofs.Common.{◌≡◌, ◌⊎◌, inl, inr, ℕ, List, [], ◌∷◌, ◌++◌, Option, Some, None, refl, sym, ap, subst, ◌∙◌, append_assoc}
 use Rattle.std.proofs.lemmas.List.{append-nil}
 use Rattle.h2_exchange.specs.Exchange.{collect}
 use Rattle.h2_exchange.specs.Stops.{Stop, Error, Calm}
 use Rattle.h2_exchange.proofs.Looking.{collect_more}
 use Rattle.http_connection.specs.Answers as conn
-use Rattle.http_connection.specs.ConnectionTrace.{ConnectionTrace, NoMemory, Refusal, Stopped}
+use Rattle.http_connection.specs.ConnectionTrace.{ConnectionTrace, IsSound, NoMemory, Refusal, Stopped}
 use Rattle.grpc_stream.specs.declared.event.CallEvent.{CallEvent}
 use Rattle.grpc_stream.specs.declared.event.CallEvent.TheVariants as says
 use Rattle.grpc_stream.specs.CallTrace.{CallTrace, PeerEvent}
@@ -44,10 +44,10 @@ appended t u v told more (next.one s w reported rest now) later =
 
 pub went_on : (c d e : ConnectionTrace) → GoesOn c d → GoesOn d e → GoesOn c e
 went_on c d e (next.stays a) later = later
-went_on c d e (next.goes a b f es gives now) later = next.goes a b e es gives (went_on b f e now later)
+went_on c d e (next.goes a b f es output gives sound now) later = next.goes a b e es output gives sound (went_on b f e now later)
 
-pub gave : (c d : ConnectionTrace) (es : List _) → conn.GivesEvents c es d → GoesOn c d
-gave c d es gives = next.goes c d d es gives (next.stays d)
+pub gave : (c d : ConnectionTrace) (es : List _) (output : List ℕ) → conn.GivesEvents c es d → IsSound d output → GoesOn c d
+gave c d es output gives sound = next.goes c d d es output gives sound (next.stays d)
 
 pub hidden_more : (past now later : List PeerEvent) → AreHidden past now → AreHidden (past ++ now) later → AreHidden past (now ++ later)
 hidden_more past now later h k =

@@ -22,12 +22,3 @@ Steps t (Some event) u = NextEvent t event u
 abbrev pub goes_down : Option CallEvent → Bool
 goes_down None = true
 goes_down (Some event) = is_event event
-
--- The connection gave an event, which the calls have not taken in.
-pub record HasHeard {C : Type 0} (stands : C → ConnectionTrace → Type 0) (output : C → List ℕ) (conn : C) (s : State) (t : CallTrace) (e : Event) : Type 0 where
-  pub at : ConnectionTrace
-  pub connected : stands conn at
-  pub gives : GivesEvents t.connection_trace (e ∷ []) at
-  pub alive : t.connection_trace.refusal ≡ None
-  pub holds : Holds s (bare t)
-  pub rest : IsRest (bare t)

@@ -224,7 +224,7 @@ module _ {C : Type 0} (stands : C → ConnectionTrace → Type 0) (output : C �
   pub died_arm : (fate : Fate) → fate ≡ Dead (length (output conn)) → (s now : State) (t : CallTrace) (e : Event) → HasGiven stands conn s t e → Comes fate now t (Some says.NoMemory)
   died_arm fate is s now t e g =
       let alive : g.at.refusal ≡ None = ap (λ (c : ConnectionTrace). c.refusal) g.gives.goes_on in
-      let on = gave t.connection_trace g.at (e ∷ []) g.gives in
+      let on = gave t.connection_trace g.at (e ∷ []) (output conn) g.gives (law conn g.at g.connected) in
       let rest = rest_at (bare (untaken t g.at)) g.at.given (rest_of s (bare (untaken t g.at)) (first_given t.connection_trace.given (law conn g.at g.connected).given (ap (λ (c : ConnectionTrace). c.given) g.gives.goes_on)) g.holds) in (
         died t g.at,
         dead_as fate (length (output conn)) is now (died t g.at) (dead_going stands output law conn t g.at g.connected g.alive alive on (length (output conn)) refl rest, refl),

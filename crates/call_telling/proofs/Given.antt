@@ -99,7 +99,7 @@ module _ {C : Type 0} (stands : C → ConnectionTrace → Type 0) (output : C �
       shown = p;
       quiet = refl;
       visible = ap (λ (l : List PeerEvent). shown_events_of l p) (append-nil t.reported) ∙ visible;
-      tells = record { alive = g.alive; goes_on = gave t.connection_trace g.at (e ∷ []) g.gives; takes = appends_one (record t { connection_trace = g.at }) p none };
+      tells = record { alive = g.alive; goes_on = gave t.connection_trace g.at (e ∷ []) (output conn) g.gives (law conn g.at g.connected); takes = appends_one (record t { connection_trace = g.at }) p none };
       event_is = is;
     }
 
@@ -110,7 +110,7 @@ module _ {C : Type 0} (stands : C → ConnectionTrace → Type 0) (output : C �
     pub going_quietly : (now : State) → Holds now (took_in before e [] t.taken) → IsGoing stands output conn now silent_at × GoesQuietly t silent_at
     going_quietly now h = (
       subst (λ (l : List PeerEvent). IsGoing stands output conn now (record t { connection_trace = g.at; reported = l })) (append-nil t.reported) (going_so now [] t.taken h),
-      record { hidden = []; quiet = refl; tells = record { alive = g.alive; goes_on = gave t.connection_trace g.at (e ∷ []) g.gives; takes = next.none silent_at } },
+      record { hidden = []; quiet = refl; tells = record { alive = g.alive; goes_on = gave t.connection_trace g.at (e ∷ []) (output conn) g.gives (law conn g.at g.connected); takes = next.none silent_at } },
     )
 
     -- ---- an event that tells nothing

@@ -80,10 +80,10 @@ module _ {C : Type 0} (stands : C → ConnectionTrace → Type 0) (output : C �
         let shown = begun_shown g.at.role (bare (untaken t g.at)) s.pending c (g.holds.role_is ∙ server) (subst (Hears g.at.role t.connection_trace.given t.reported s.pending c) opened stood.2.hears) in
         let holds = truncated_holds (bare (untaken t g.at)) s cs c ending fields (further stands output law conn s t (Ended c.stream) g) (g.holds.role_is ∙ server)
         (split_is stands output law conn s t (Ended c.stream) g) quiet opened some ends unsent fits is ready g.holds in (
-          declined_at t g.at c.stream truncated g.alive (gave t.connection_trace g.at (Ended c.stream ∷ []) g.gives),
-          stands_of stands output fate conn (state_at s.role Nothing cs) (declined_at t g.at c.stream truncated g.alive (gave t.connection_trace g.at (Ended c.stream ∷ []) g.gives)) going
+          declined_at t g.at c.stream truncated g.alive (gave t.connection_trace g.at (Ended c.stream ∷ []) (output conn) g.gives (law conn g.at g.connected)),
+          stands_of stands output fate conn (state_at s.role Nothing cs) (declined_at t g.at c.stream truncated g.alive (gave t.connection_trace g.at (Ended c.stream ∷ []) (output conn) g.gives (law conn g.at g.connected))) going
               (going_so stands output law conn s t (Ended c.stream) g (state_at s.role Nothing cs) (Asked (Declined c.stream truncated) ∷ []) (declined_taken t c.stream truncated) holds),
-          shows_drop t g.at c.stream truncated g.alive (gave t.connection_trace g.at (Ended c.stream ∷ []) g.gives) shown,
+          shows_drop t g.at c.stream truncated g.alive (gave t.connection_trace g.at (Ended c.stream ∷ []) (output conn) g.gives (law conn g.at g.connected)) shown,
         )
 
     -- ---- bytes that are no message
@@ -126,7 +126,7 @@ module _ {C : Type 0} (stands : C → ConnectionTrace → Type 0) (output : C �
       let f = further stands output law conn s t (Head id fields last) g in
       let split = split_is stands output law conn s t (Head id fields last) g in
       let comes = comes_in stands output law conn s t (Head id fields last) g in
-      let on = gave t.connection_trace g.at (Head id fields last ∷ []) g.gives in
+      let on = gave t.connection_trace g.at (Head id fields last ∷ []) (output conn) g.gives (law conn g.at g.connected) in
       let holds = refused_head_holds (bare (untaken t g.at)) s id fields last f (g.holds.role_is ∙ server) split comes quiet g.holds close is ending block ends unsent fits ready in (
         declined_at t g.at id close g.alive on,
         stands_of stands output fate conn (state_at s.role Nothing (s.calls ++ closed_by ending block (began id was.Closed false) ∷ [])) (declined_at t g.at id close g.alive on) going

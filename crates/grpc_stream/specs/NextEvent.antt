@@ -8,7 +8,7 @@ use Rattle.h2_exchange.specs.Events.{Event}
 use Rattle.h2_exchange.specs.Exchange.{collect}
 use Rattle.h2_exchange.specs.StreamParts.{Item, Finish}
 use Rattle.h2_exchange.specs.Stops.{Stop, Error, Calm}
-use Rattle.http_connection.specs.ConnectionTrace.{ConnectionTrace, Refusal, Stopped, NoMemory}
+use Rattle.http_connection.specs.ConnectionTrace.{ConnectionTrace, IsSound, Refusal, Stopped, NoMemory}
 use Rattle.http_connection.specs.Answers as conn
 use Rattle.grpc_stream.specs.declared.event.CallEvent.{CallEvent}
 use Rattle.grpc_stream.specs.declared.event.CallEvent.TheVariants as says
@@ -55,10 +55,10 @@ pub data AppendsPeerEvents : CallTrace → List PeerEvent → CallTrace → Type
       AppendsPeerEvents (record t { reported = t.reported ++ reported ∷ []; taken = t.taken ++ answer_to t reported }) more u →
       AppendsPeerEvents t (reported ∷ more) u
 
--- The connection gave events, one after another. The frames that it sends by that are all that is sent.
+-- The connection gave events, one after another, and was sound behind each. The frames that it sends by that are all that is sent.
 pub data GoesOn : ConnectionTrace → ConnectionTrace → Type 0 where
   stays : (c : ConnectionTrace) → GoesOn c c
-  goes : (c d e : ConnectionTrace) (es : List Event) → conn.GivesEvents c es d → GoesOn d e → GoesOn c e
+  goes : (c d e : ConnectionTrace) (es : List Event) (output : List ℕ) → conn.GivesEvents c es d → IsSound d output → GoesOn d e → GoesOn c e
 
 -- the connection went on to this course, and so much was told
 pub record ReportsPeerEvents (t : CallTrace) (reported : List PeerEvent) (c : ConnectionTrace) (u : CallTrace) : Type 0 where
