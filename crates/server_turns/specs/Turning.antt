@@ -105,6 +105,12 @@ IsFault (Over over.ReadFault) = Unit {0}
 IsFault (Over over.WriteFault) = Unit {0}
 IsFault other = ⊥
 
+-- Or it could not be written that the connection goes away.
+abbrev pub MayFail : TurnEnd → Type 0
+MayFail (Over (over.Protocol why place)) = Unit {0}
+MayFail (Over (over.Calm cause)) = Unit {0}
+MayFail other = IsFault other
+
 -- the past behind a turn
 abbrev pub behind : During → Past → Past
 behind turn past = gone_on turn.pieces turn.own turn.is_ended past
