@@ -141,7 +141,7 @@ held_set (x ∷ xs) (suc n) call new inside is =
     let rest = held_set xs n call new (omega (arith, inside)) is in
     omega (arith, rest, first_of (state_of x) (states (slice_set xs n new)), first_of (state_of x) (states xs))
 
-placed : {X : Type 0} (p : X → Bool) (xs : List X) (at : ℕ) → position p xs ≡ Some at → at < length xs
+pub placed : {X : Type 0} (p : X → Bool) (xs : List X) (at : ℕ) → position p xs ≡ Some at → at < length xs
 placed p xs at e = by (nat_lt (position_or_len p xs) (length xs)) refl e
   where
     by : (b : Bool) → nat_lt (position_or_len p xs) (length xs) ≡ b → cond b (Some (position_or_len p xs)) None ≡ Some at → at < length xs

@@ -96,10 +96,10 @@ module _ (t : CallTrace) (id : ℕ) (e : CallEnd) (begun : is_begun t.connection
     spelled = λ suited. spells_finished t.connection_trace.role rest (h.spelled (suited_before suited));
   }
 
--- what a last header block needs, so that it says the end
+-- what a last header block needs, so that it says the end of a call that has none
 abbrev pub IsReady : CallTrace → CallState → CallEnd → Ending → List Field → Type 0
 IsReady t c e ending fields =
-    AreSuited (took c.stream (Finish e) t) c.stream → (c.has_message ≡ false → queued_on t c.stream ≡ []) → (c.has_message ≡ true → IsMessageFirst (queued_on t c.stream)) →
+    is_ended t c.stream ≡ false → AreSuited (took c.stream (Finish e) t) c.stream → (c.has_message ≡ false → queued_on t c.stream ≡ []) → (c.has_message ≡ true → IsMessageFirst (queued_on t c.stream)) →
     Prepares t.connection_trace.role (took c.stream (Finish e) t) c.stream ending fields
 
 module _ (t : CallTrace) (c : CallState) (e : CallEnd) (ending : Ending) (fields : List Field) (ends : ended ending ≡ true) (unsent : is_sent ending ≡ false) (fits : sum_by size_of fields ≤ 65536)
@@ -116,7 +116,7 @@ module _ (t : CallTrace) (c : CallState) (e : CallEnd) (ending : Ending) (fields
         message_is = λ k. text_same t c.stream e begun unended ∙ h.message_is k;
         first_is = λ k. subst IsMessageFirst (sym all) (first_more (queued_on t c.stream) e (h.first_is k));
         ahead = h.ahead;
-        prepared = λ suited. ready suited (λ k. none_taken (queued_on t c.stream) unended (h.message_is k)) h.first_is;
+        prepared = λ suited. ready unended suited (λ k. none_taken (queued_on t c.stream) unended (h.message_is k)) h.first_is;
       }
 
 -- ---- a call that is refused

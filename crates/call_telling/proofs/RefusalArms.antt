@@ -73,7 +73,7 @@ module _ {C : Type 0} (stands : C → ConnectionTrace → Type 0) (output : C �
   -- ---- an end inside a message
 
   module _ (fields : List Field) (fits : sum_by size_of fields ≤ 65536) where
-    truncated_base : s.pending ≡ Nothing → (c : CallState) (cs : List CallState) → c.receiving ≡ was.Open → (c.cutter.held ≡ [] → ⊥) → IsChanged c.stream c (refused_by ending fields c) s.calls cs →
+    pub truncated_base : s.pending ≡ Nothing → (c : CallState) (cs : List CallState) → c.receiving ≡ was.Open → (c.cutter.held ≡ [] → ⊥) → IsChanged c.stream c (refused_by ending fields c) s.calls cs →
         (g : HasGiven stands conn s t (Ended c.stream)) → IsReady (bare (untaken t g.at)) c truncated ending fields → Comes stands output law conn fate (state_at s.role Nothing cs) t (Some (says.Dropped c.stream))
     truncated_base quiet c cs opened some is g ready =
         let stood : StandsOn (bare (untaken t g.at)) s.pending c.stream (Some c) = subst (StandsOn (bare (untaken t g.at)) s.pending c.stream) is.was (g.holds.each c.stream) in
