@@ -4,3 +4,4 @@ mod Steps
 mod Asking
 mod Whole
 mod Runs
+pub mod Sends

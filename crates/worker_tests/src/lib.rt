@@ -2,4 +2,6 @@
 #![tactic(auto)]
 
 #[cfg(test)]
+mod threads;
+#[cfg(test)]
 mod workers;

@@ -32,7 +32,12 @@ fn hop(alloc: Global, index: u64) -> Entry {
 }
 
 // Makes a call, and lets its reply go.
-fn tell<R: Wait>(rt: &R, lock: &TableLock<RibCore>, pass: &mut Pass<RibCore>, command: Command)
+pub(crate) fn tell<R: Wait>(
+    rt: &R,
+    lock: &TableLock<RibCore>,
+    pass: &mut Pass<RibCore>,
+    command: Command,
+)
     requires { IsPassOf lock.now pass.old }
     ensures { IsPassOf lock.now pass.new × (pass.new.number ≡ pass.old.number) }
 {
@@ -40,7 +45,7 @@ fn tell<R: Wait>(rt: &R, lock: &TableLock<RibCore>, pass: &mut Pass<RibCore>, co
 }
 
 // Opens session 0, which wants to hear of the forwarding table.
-fn open<R: Wait>(rt: &R, lock: &TableLock<RibCore>, pass: &mut Pass<RibCore>)
+pub(crate) fn open<R: Wait>(rt: &R, lock: &TableLock<RibCore>, pass: &mut Pass<RibCore>)
     requires { IsPassOf lock.now pass.old }
     ensures { IsPassOf lock.now pass.new × (pass.new.number ≡ pass.old.number) }
 {
@@ -54,7 +59,7 @@ fn open<R: Wait>(rt: &R, lock: &TableLock<RibCore>, pass: &mut Pass<RibCore>)
     tell(rt, lock, pass, Command::Announce(0, 1));
 }
 
-fn add<R: Wait>(
+pub(crate) fn add<R: Wait>(
     rt: &R,
     alloc: Global,
     lock: &TableLock<RibCore>,
@@ -86,7 +91,11 @@ fn counts(batch: &Batch) -> (u64, u64) {
 }
 
 // Those that a Collect of session 0 is answered with.
-fn collect<R: Wait>(rt: &R, lock: &TableLock<RibCore>, pass: &mut Pass<RibCore>) -> (u64, u64)
+pub(crate) fn collect<R: Wait>(
+    rt: &R,
+    lock: &TableLock<RibCore>,
+    pass: &mut Pass<RibCore>,
+) -> (u64, u64)
     requires { IsPassOf lock.now pass.old }
     ensures { IsPassOf lock.now pass.new × (pass.new.number ≡ pass.old.number) }
 {
@@ -96,7 +105,7 @@ fn collect<R: Wait>(rt: &R, lock: &TableLock<RibCore>, pass: &mut Pass<RibCore>)
     }
 }
 
-fn of_workers(workers: u32) -> Config
+pub(crate) fn of_workers(workers: u32) -> Config
     ensures { (result.instances ≡ 1) × (result.workers ≡ workers) × (result.limit ≡ 100) }
 {
     Config {
