@@ -1,13 +1,11 @@
 -- Credit that ends a hold may be sent.
-use Rattle.std.proofs.Common.{◌≡◌, ◌⊎◌, inl, inr, ℕ, ◌+◌, ◌<◌, ◌≤◌, ◌^◌, ◌==◌, Bool, ◌&&◌, ◌||◌, true, false, not, map, List, [], ◌∷◌, ◌++◌, refl, sym, ap, subst, ◌∙◌, arith, append_assoc, append-nil}
-use Rattle.std.specs.Prelude.{if◌then◌else◌}
-use Rattle.std.specs.List.{All}
+use Rattle.std.proofs.Common.{◌≡◌, ◌⊎◌, inl, inr, ℕ, ◌+◌, ◌-◌, ◌<◌, ◌≤◌, length, ◌^◌, ◌==◌, Bool, ◌&&◌, true, false, not, map, List, [], ◌∷◌, ◌++◌, refl, sym, ap, subst, ◌∙◌, arith, append_assoc, append-nil}
+use Rattle.std.specs.Prelude.{Option, Some, None, if◌then◌else◌, is_some}
+use Rattle.std.specs.List.{All, flat_map}
 use Rattle.std.proofs.lemmas.Nat.{from_be_bytes-to_be_bytes_4}
-use Rattle.std.proofs.lemmas.List.Folds.{list_any-append}
 use Rattle.std.proofs.lemmas.List.Sums.{sum_by-append}
 use Rattle.std.proofs.lemmas.List.Elements.{All-head, All-tail}
 use Rattle.h2_frames.specs.declared.frame.Frame.{Frame}
-use Rattle.h2_frames.specs.declared.frame.Frame.TheVariants.{WindowUpdate}
 use Rattle.h2_frames.specs.Layout.{frame_text}
 use Rattle.h2_exchange.specs.declared.role.Role.{Role}
 use Rattle.h2_exchange.specs.declared.role.Role.TheVariants.{Server}
@@ -15,54 +13,31 @@ use Rattle.h2_exchange.specs.Exchange.{Step, Sent, received, sent}
 use Rattle.h2_exchange.specs.Frames.{increment_of, is_rst_stream, is_window_update, stream_of}
 use Rattle.h2_exchange.specs.Outgoing.{MaySend, SendsOnly, credits, credits_stream}
 use Rattle.h2_exchange.specs.Sending.{IsCredited, first_text, update_text}
-use Rattle.h2_exchange.specs.Streams.{has_rst_stream, is_begun, is_ended_by, is_live, is_over, is_reset}
-use Rattle.h2_exchange.specs.Windows.{granted_on, spent, spent_on}
-use Rattle.h2_exchange.proofs.Looking.{or_nothing}
+use Rattle.h2_exchange.specs.Streams.{is_live, is_reset}
+use Rattle.h2_exchange.specs.Windows.{granted_on, may_send, spent, spent_on}
 use Rattle.h2_exchange.proofs.Places.{same_self}
 use Rattle.h2_exchange.proofs.Sending.{only_these_are_sent}
-use Rattle.h2_exchange.proofs.Steps.{begun_push, received_sent, sent_more, sent_push, window_sums_grow}
+use Rattle.h2_exchange.proofs.Steps.{sent_more, window_sums_grow}
 use Rattle.http_connection.specs.ConnectionTrace.{ArePlaced, ConnectionTrace, held, is_alive, wrote}
 use Rattle.http_connection.specs.Sends.{CarryCredit, IsCredit}
-use Rattle.grpc_stream.specs.CallTrace.{CallTrace, IsSoundCallTrace, changed}
+use Rattle.grpc_stream.specs.CallTrace.{CallTrace, IsSoundCallTrace, changed, queued_on, text_of, unsent_on, waiting_in}
 use Rattle.grpc_stream.proofs.Granted.{live_number, one_frame, update}
-use Rattle.grpc_heads.specs.CallEnd.{CallEnd}
+use Rattle.grpc_heads.specs.CallEnd.{CallEnd, call_end_of}
+use Rattle.grpc_heads.specs.Written.{response_fields}
 use Rattle.h2_exchange.specs.Order.{Piece}
 use Rattle.h2_exchange.specs.StreamParts.{Item}
 use Rattle.table_model.specs.Event.{Event}
 use Rattle.call_answers.specs.declared.orders.Setting.{Setting}
-use Rattle.call_orders.specs.Calls.{Action}
+use Rattle.call_orders.specs.Calls.{Action, answers}
 use Rattle.session_engine.specs.Queries.{OpenCallsView}
-use Rattle.server_turns.specs.Serving.{none_asked}
-use Rattle.server_account.specs.Agreeing.{AreHandled, IsServer, IsSettled, IsTold}
+use Rattle.server_turns.specs.Past.{Past}
+use Rattle.server_turns.specs.Serving.{IsAnswered, none_asked}
+use Rattle.server_account.specs.Agreeing.{AreHandled, IsServer, IsSettled, IsTold, account_of}
 use Rattle.server_account.proofs.Quiet.{ResetNone}
-use Rattle.server_account.proofs.Resets.{ended_push, other_ends_none}
+use Rattle.server_account.proofs.Rests.{alive_rest}
+use Rattle.server_account.proofs.Steady.{AreUpdates, IsSteady, all_steady, answers_same, live_sums_same, may_send_same, update_steady}
 use Rattle.server_account.proofs.Tells.{first_more}
 use Rattle.server_account.proofs.Uses.{handled_on, received_same, reported_same, settled_sends, told_sends}
-
--- ---- a WINDOW_UPDATE leaves streams as they are
-
-live_same : (x : List Step) (f : Frame) (id : ℕ) → is_window_update f ≡ true → is_live Server (x ++ Sent f ∷ []) id ≡ is_live Server x id
-live_same x (WindowUpdate b) id is =
-    ap (λ (c : Bool). c && not (is_over (x ++ Sent (WindowUpdate b) ∷ []) id)) (begun_push Server x (Sent (WindowUpdate b)) id ∙ or_nothing (is_begun Server x id))
-    ∙ ap (λ (c : Bool). is_begun Server x id && not c) over_same
-  where
-    reset_same : is_reset (x ++ Sent (WindowUpdate b) ∷ []) id ≡ is_reset x id
-    reset_same =
-        ap (λ (fs : List Frame). has_rst_stream fs id || has_rst_stream (sent (x ++ Sent (WindowUpdate b) ∷ [])) id) (received_sent x (WindowUpdate b))
-        ∙ ap (λ (c : Bool). has_rst_stream (received x) id || c) (ap (λ (fs : List Frame). has_rst_stream fs id) (sent_push x (WindowUpdate b))
-        ∙ list_any-append (λ (g : Frame). is_rst_stream g && stream_of g == id) (sent x) (WindowUpdate b ∷ []) ∙ or_nothing (has_rst_stream (sent x) id))
-
-    ended_same : is_ended_by (sent (x ++ Sent (WindowUpdate b) ∷ [])) id ≡ is_ended_by (sent x) id
-    ended_same =
-        ap (λ (fs : List Frame). is_ended_by fs id) (sent_push x (WindowUpdate b)) ∙ ended_push id (sent x) (WindowUpdate b)
-        ∙ ap (λ (c : Bool). is_ended_by (sent x) id || c) (other_ends_none id (sent x) (WindowUpdate b) refl) ∙ or_nothing (is_ended_by (sent x) id)
-
-    over_same : is_over (x ++ Sent (WindowUpdate b) ∷ []) id ≡ is_over x id
-    over_same =
-        ap (λ (c : Bool). c || is_ended_by (received (x ++ Sent (WindowUpdate b) ∷ [])) id && is_ended_by (sent (x ++ Sent (WindowUpdate b) ∷ [])) id) reset_same
-        ∙ ap (λ (fs : List Frame). is_reset x id || is_ended_by fs id && is_ended_by (sent (x ++ Sent (WindowUpdate b) ∷ [])) id) (received_sent x (WindowUpdate b))
-        ∙ ap (λ (c : Bool). is_reset x id || is_ended_by (received x) id && c) ended_same
-live_same x other id is = absurd cc
 
 -- ---- so much is granted
 
@@ -92,12 +67,13 @@ credit_is c f (id, n, text, some, fits, on) =
     let small : id < 2 ^ 31 = elim on [ inl zero ↦ omega (arith, zero) | inr lives ↦ (live_number c.role c.frames id lives).1 ] in
     record { id = id; n = n; small = small; frame_is = one_frame f (update id n small) text; some = some; fits = fits; on = on }
 
-live_after : (c : ConnectionTrace) (x : List Step) (fs : List Frame) → All (IsCredit c) fs → (id : ℕ) → is_live Server (x ++ map Sent fs) id ≡ is_live Server x id
-live_after c x [] h id = ap (λ (y : List Step). is_live Server y id) (append-nil x)
-live_after c x (f ∷ fs) h id =
-    let g : Grants c f = credit_is c f (All-head (IsCredit c) f fs h) in
-    sym (ap (λ (y : List Step). is_live Server y id) (append_assoc x (Sent f ∷ []) (map Sent fs))) ∙ live_after c (x ++ Sent f ∷ []) fs (All-tail (IsCredit c) f fs h) id
-    ∙ live_same x f id (ap is_window_update g.frame_is)
+are_updates : (c : ConnectionTrace) (fs : List Frame) → All (IsCredit c) fs → AreUpdates fs
+are_updates c [] h = tt
+are_updates c (f ∷ fs) h = (ap is_window_update (credit_is c f (All-head (IsCredit c) f fs h)).frame_is, are_updates c fs (All-tail (IsCredit c) f fs h))
+
+pub carried_updates : (hold : Bool) (c : ConnectionTrace) (fs : List Frame) → CarryCredit hold c fs → AreUpdates fs
+carried_updates true c fs none = subst AreUpdates (sym none) tt
+carried_updates false c fs h = are_updates c fs h.0
 
 module _ (c : ConnectionTrace) (is : c.role ≡ Server) (bytes rest : List ℕ) (w : List Step) (placed : ArePlaced w) (whole : IsCredited Server c.limits w) (lives : (id : ℕ) → is_live Server w id ≡ is_live Server c.frames id) where
   abbrev Sends : List Step → Type 0
@@ -133,7 +109,7 @@ module _ (c : ConnectionTrace) (is : c.role ≡ Server) (bytes rest : List ℕ) 
   all_credit x [] split same h sends = subst Sends (sym (split ∙ append-nil x)) sends
   all_credit x (f ∷ fs) split same h sends =
       let g : Grants c f = credit_is c f (All-head (IsCredit c) f fs h) in
-      all_credit (x ++ Sent f ∷ []) fs (split ∙ sym (append_assoc x (Sent f ∷ []) (map Sent fs))) (λ id. live_same x f id (ap is_window_update g.frame_is) ∙ same id) (All-tail (IsCredit c) f fs h) (one_credit x f fs split same g sends)
+      all_credit (x ++ Sent f ∷ []) fs (split ∙ sym (append_assoc x (Sent f ∷ []) (map Sent fs))) (λ id. (update_steady Server x f (ap is_window_update g.frame_is)).lives id ∙ same id) (All-tail (IsCredit c) f fs h) (one_credit x f fs split same g sends)
 
 -- ---- a hold begins or ends
 
@@ -150,7 +126,11 @@ credit_sends : (hold : Bool) (c : ConnectionTrace) (fs : List Frame) → c.role 
 credit_sends true c fs is alive placed none bytes rest sends =
     subst (SendsOnly Server c.limits c.heads none_asked bytes rest) (sym (ap (λ (l : List Frame). c.frames ++ map Sent l) none ∙ append-nil c.frames)) sends
 credit_sends false c fs is alive placed h bytes rest sends =
-    all_credit c is bytes rest (c.frames ++ map Sent fs) placed (subst (λ (r : Role). IsCredited r c.limits (c.frames ++ map Sent fs)) is (h.3 alive)) (λ id. live_after c c.frames fs h.0 id) c.frames fs refl (λ id. refl) h.0 sends
+    all_credit c is bytes rest (c.frames ++ map Sent fs) placed (subst (λ (r : Role). IsCredited r c.limits (c.frames ++ map Sent fs)) is (h.3 alive)) (all_steady Server c.frames fs (are_updates c fs h.0)).lives c.frames fs refl (λ id. refl) h.0 sends
+
+not_refused : {A : Type 0} (o : Option A) → not (is_some o) ≡ true → o ≡ None
+not_refused None e = refl
+not_refused (Some a) e = absurd cc
 
 module _ (s : Setting) (t : CallTrace) (output later : List ℕ) (hold : Bool) (fs : List Frame) (h : IsServer s t output) (alive : is_alive t.connection_trace ≡ true) (carries : CarryCredit hold t.connection_trace fs) where
   abbrev credited : CallTrace
@@ -163,9 +143,10 @@ module _ (s : Setting) (t : CallTrace) (output later : List ℕ) (hold : Bool) (
     numbers = h.numbers;
     limits = h.limits;
     first = first_more (first_text Server t.connection_trace.limits) t.connection_trace.frames (map Sent fs) h.first;
-    sends = λ rest. subst (λ (r : Role). SendsOnly r t.connection_trace.limits t.connection_trace.heads none_asked t.connection_trace.fed rest (t.connection_trace.frames ++ map Sent fs)) (sym h.role)
+    sends = λ rest _. subst (λ (r : Role). SendsOnly r t.connection_trace.limits t.connection_trace.heads none_asked t.connection_trace.fed rest (t.connection_trace.frames ++ map Sent fs)) (sym h.role)
         (credit_sends hold t.connection_trace fs h.role alive sound.connection_trace.placed carries t.connection_trace.fed rest
-        (subst (λ (r : Role). SendsOnly r t.connection_trace.limits t.connection_trace.heads none_asked t.connection_trace.fed rest t.connection_trace.frames) h.role (h.sends rest)));
+        (subst (λ (r : Role). SendsOnly r t.connection_trace.limits t.connection_trace.heads none_asked t.connection_trace.fed rest t.connection_trace.frames) h.role
+        (h.sends rest (alive_rest t.connection_trace rest (not_refused t.connection_trace.refusal alive)))));
     suited = h.suited;
   }
 
@@ -180,3 +161,34 @@ module _ (s : Setting) (t : CallTrace) (output later : List ℕ) (hold : Bool) (
       let none = carried_resets_none hold t.connection_trace fs carries in
       let m = settled_sends s t output later fs [] rest none k in
       record { all = m.all ∙ reported_same t.connection_trace.role t.numbers (wrote fs [] t.connection_trace) credited.connection_trace refl; alive = m.alive; unstopped = m.unstopped; whole = m.whole }
+
+-- ---- what credit leaves as it is
+
+module _ (s : Setting) (t : CallTrace) (output later : List ℕ) (past : Past) (rest : List ℕ) (actions : List Action) (hold : Bool) (fs : List Frame) (id : ℕ) (carries : CarryCredit hold t.connection_trace fs) where
+  abbrev granted : CallTrace
+  granted = changed (λ c. held hold (wrote fs [] c)) t
+
+  steady : (role : Role) → IsSteady role t.connection_trace.frames (t.connection_trace.frames ++ map Sent fs)
+  steady role = all_steady role t.connection_trace.frames fs (carried_updates hold t.connection_trace fs carries)
+
+  same_answers : IsAnswered s past (account_of t output rest actions) id → IsAnswered s past (account_of granted later rest actions) id
+  same_answers answered =
+      answers_same Server t.connection_trace.frames (t.connection_trace.frames ++ map Sent fs) (steady Server) response_fields (call_end_of s.numbering) id (answers s actions id) answered
+
+  same_waits : waiting_in granted ≡ waiting_in t
+  same_waits =
+      live_sums_same t.connection_trace.role t.connection_trace.frames (t.connection_trace.frames ++ map Sent fs) (steady t.connection_trace.role) (unsent_on granted) (unsent_on t)
+      (λ n. ap (λ (m : ℕ). length (flat_map text_of (queued_on t n)) - m) ((steady t.connection_trace.role).spent_there n))
+
+  pub credits_keep : (is_reset (t.connection_trace.frames ++ map Sent fs) id ≡ is_reset t.connection_trace.frames id)
+      × (is_live Server (t.connection_trace.frames ++ map Sent fs) id ≡ is_live Server t.connection_trace.frames id)
+      × (may_send (t.connection_trace.frames ++ map Sent fs) id ≡ may_send t.connection_trace.frames id)
+      × (IsAnswered s past (account_of t output rest actions) id → IsAnswered s past (account_of granted later rest actions) id)
+      × (waiting_in granted ≡ waiting_in t)
+  credits_keep = (
+    (steady Server).resets id,
+    (steady Server).lives id,
+    may_send_same Server t.connection_trace.frames (t.connection_trace.frames ++ map Sent fs) (steady Server) id,
+    same_answers,
+    same_waits,
+  )

@@ -14,7 +14,9 @@ use Rattle.h2_exchange.specs.declared.role.Role.TheVariants.{Server}
 use Rattle.h2_exchange.specs.Content.{Outcome as BlockOutcome}
 use Rattle.h2_exchange.specs.Exchange.{Step, Sent, received, sent}
 use Rattle.h2_exchange.specs.Frames.{is_goaway, is_rst_stream}
-use Rattle.h2_exchange.specs.Order.{AreFrames, RestBreaks, peer_preface}
+use Rattle.h2_exchange.specs.Order.{AreFrames, Piece, RestBreaks, peer_preface, received_bytes, sent_bytes}
+use Rattle.h2_exchange.specs.Outcomes.{IsReadExchange}
+use Rattle.h2_exchange.specs.Outgoing.{SendsOnly}
 use Rattle.h2_exchange.specs.Stops.{Calm, Error, IsBroken, IsCalm, Stop, stop_of}
 use Rattle.h2_exchange.proofs.Places.{second_true}
 use Rattle.h2_exchange.proofs.Staying.{stops_stay}
@@ -38,11 +40,13 @@ use Rattle.session_engine.specs.Stands.{IsUnended}
 use Rattle.server_turns.specs.declared.outcome.Outcome.{Outcome}
 use Rattle.server_turns.specs.declared.outcome.Outcome.TheVariants as over
 use Rattle.server_turns.specs.Past.{Past}
-use Rattle.server_turns.specs.Serving.{HasCause, Serves, calls_spelled, end_of, reads_all}
-use Rattle.server_account.specs.Agreeing.{AreHandled, IsServer, IsSettled, IsTaken, IsTold, account_of, none_left}
+use Rattle.server_turns.specs.Serving.{HasCause, Serves, calls_spelled, end_of, none_asked, reads_all}
+use Rattle.server_account.specs.Agreeing.{AreHandled, IsAhead, IsServer, IsSettled, IsTaken, IsTold, MayBeRest, account_of, none_left}
 use Rattle.server_account.specs.Ending.{AreClosed}
 use Rattle.server_account.proofs.Quiet.{stays_clear}
-use Rattle.server_account.proofs.Serves.{all_handled, answers_begin, asked_back, frames_are, reported_as, serves_with}
+use Rattle.server_account.proofs.Late.{late_exchange, late_sends}
+use Rattle.server_account.proofs.Rests.{alive_rest, never_some, stopped_rest}
+use Rattle.server_account.proofs.Serves.{all_handled, answers_begin, asked_back, frames_are, reported_as, serves_by, serves_with}
 
 -- ---- all that clients did was handled
 
@@ -69,8 +73,9 @@ pub settled_serves : (s : Setting) (t : CallTrace) (output rest : List ℕ) (ope
     AreHandled s t open_calls actions (events_in actions) none_left → IsSettled t rest → AreClosed actions past.own last → end_of (Some outcome) ≡ AllHandled →
     HasCause s past (account_of t output rest actions) (Some outcome) → Serves s past (account_of t output rest actions) (Some outcome)
 settled_serves s t output rest open_calls actions past last outcome h told served settled closed is cause =
-    serves_with s t output h past told rest actions (Some outcome) (λ _ _. frames_are s t output rest h past told settled)
-    (answers_begin s t output h actions none_left served.taken (λ id. inl refl) served.open_now.unended)
+    let may = alive_rest t.connection_trace rest settled.alive in
+    serves_with s t output h past told rest may actions (Some outcome) (λ _ _. frames_are s t output rest h past told settled)
+    (answers_begin s t output h rest may actions none_left (λ id. inl (served.taken id)) (λ id. inl refl) served.open_now.unended)
     (ends_handled s t output rest h open_calls actions past outcome is (orders_close s t output rest h open_calls actions past last served settled.all closed)) cause
 
 -- ---- a connection that stops
@@ -146,6 +151,13 @@ module _ (s : Setting) (u : CallTrace) (output : List ℕ) (h : IsServer s u out
   pub calm_cause : (cause : CalmCause) → stop ≡ Calm cause → IsCalm Server u.connection_trace.limits u.connection_trace.heads u.connection_trace.frames cause
   calm_cause cause is = stop_is (Some (Calm cause)) (subst (conn.IsCause at) is stops.cause)
 
+  as_own : {o : Option Stop} → stop_in u.connection_trace ≡ o → stop_then ≡ o
+  as_own e = ap (λ (r : Role). stop_of r u.connection_trace.limits u.connection_trace.heads u.connection_trace.frames) (sym h.role) ∙ e
+
+  pub calm_rest : (cause : CalmCause) → stop ≡ Calm cause → (rest : List ℕ) → MayBeRest u.connection_trace rest
+  calm_rest cause is rest =
+      stopped_rest u.connection_trace rest (Calm cause) (ap (λ (r : Role). stop_of r u.connection_trace.limits u.connection_trace.heads u.connection_trace.frames) h.role ∙ calm_cause cause is)
+
   module _ (why : ErrorCode) (place : ℕ) (is : stop ≡ Error why place) where
     pub breaks : conn.Breaks at why place
     breaks = subst (conn.IsCause at) is stops.cause
@@ -168,6 +180,15 @@ module _ (s : Setting) (u : CallTrace) (output : List ℕ) (h : IsServer s u out
         (subst (λ (bytes : List ℕ). AreFrames (peer_preface Server) bytes (received at.frames) breaks.0) (sym fed_then)
         (subst (λ (r : Role). AreFrames (peer_preface r) at.fed (received at.frames) breaks.0) at_role (breaks.2 (unstopped_at e))))
 
+    pub broken_rest : MayBeRest u.connection_trace breaks.0
+    broken_rest other stopped clear =
+        subst (λ (r : Role). AreFrames (peer_preface r) u.connection_trace.fed (received u.connection_trace.frames) breaks.0) (sym h.role) (broken_frames (as_own clear))
+
+-- what a stop leaves behind the whole frames
+pub stop_leaves : (s : Setting) (u : CallTrace) (output : List ℕ) → IsServer s u output → (c : ConnectionTrace) (stop : Stop) → conn.Stops c stop u.connection_trace → (rest : List ℕ) × MayBeRest u.connection_trace rest
+stop_leaves s u output h c (Error why place) stops = ((breaks s u output h c (Error why place) stops why place refl).0, broken_rest s u output h c (Error why place) stops why place refl)
+stop_leaves s u output h c (Calm cause) stops = ([], calm_rest s u output h c (Calm cause) stops cause refl [])
+
 pub refused_serves : (s : Setting) (t u : CallTrace) (output : List ℕ) (why : ErrorCode) (place : ℕ) (open_calls : OpenCallsView) (actions : List Action) (past : Past) (last : List Event) → IsServer s u output → IsTold u past.pieces →
     Stops t (Error why place) u → AreHandled s u open_calls actions (events_in actions) none_left → AreClosed actions past.own last →
     (rest : List ℕ) × Serves s past (account_of u output rest actions) (Some (over.Protocol why place))
@@ -175,18 +196,15 @@ refused_serves s t u output why place open_calls actions past last h told stops 
     let c = stops.before in
     let cause = broken_cause s u output h c (Error why place) stops.stops why place refl in
     let whole = broken_frames s u output h c (Error why place) stops.stops why place refl in
+    let may = broken_rest s u output h c (Error why place) stops.stops why place refl in
     let rest = (breaks s u output h c (Error why place) stops.stops why place refl).0 in (
       rest,
-      serves_with s u output h past told rest actions (Some (over.Protocol why place))
+      serves_with s u output h past told rest may actions (Some (over.Protocol why place))
           (λ _ e. subst (λ (bytes : List ℕ). AreFrames (peer_preface Server) bytes (received u.connection_trace.frames) rest) told.fed (whole e))
-          (answers_begin s u output h actions none_left served.taken (λ id. inl refl) served.open_now.unended)
+          (answers_begin s u output h rest may actions none_left (λ id. inl (served.taken id)) (λ id. inl refl) served.open_now.unended)
           (orders_close s u output rest h open_calls actions past last served stops.reported closed)
           (subst (λ (bytes : List ℕ). IsBroken Server u.connection_trace.limits u.connection_trace.heads bytes u.connection_trace.frames rest why place) told.fed cause, goes_away s u output h c (Error why place) stops.stops),
     )
-
-no_rest : {A : Type 0} (o : Option Stop) (stop : Stop) → o ≡ Some stop → o ≡ None → A
-no_rest None stop e f = absurd cc
-no_rest (Some other) stop e f = absurd cc
 
 pub calm_serves : (s : Setting) (t u : CallTrace) (output rest : List ℕ) (cause : CalmCause) (open_calls : OpenCallsView) (actions : List Action) (past : Past) (last : List Event) → IsServer s u output → IsTold u past.pieces →
     Stops t (Calm cause) u → AreHandled s u open_calls actions (events_in actions) none_left → AreClosed actions past.own last →
@@ -194,22 +212,30 @@ pub calm_serves : (s : Setting) (t u : CallTrace) (output rest : List ℕ) (caus
 calm_serves s t u output rest cause open_calls actions past last h told stops served closed =
     let c = stops.before in
     let calm = calm_cause s u output h c (Calm cause) stops.stops cause refl in
-    serves_with s u output h past told rest actions (Some (over.Calm cause)) (λ _ e. no_rest _ (Calm cause) calm e)
-    (answers_begin s u output h actions none_left served.taken (λ id. inl refl) served.open_now.unended)
+    let may = calm_rest s u output h c (Calm cause) stops.stops cause refl rest in
+    serves_with s u output h past told rest may actions (Some (over.Calm cause)) (λ _ e. never_some _ (Calm cause) e calm)
+    (answers_begin s u output h rest may actions none_left (λ id. inl (served.taken id)) (λ id. inl refl) served.open_now.unended)
     (orders_close s u output rest h open_calls actions past last served stops.reported closed)
     (calm, goes_away s u output h c (Calm cause) stops.stops)
 
 -- ---- a connection that leaves something unread
 
-pub unread_serves : (s : Setting) (t : CallTrace) (output rest : List ℕ) (actions : List Action) (past : Past) (next : List (Call Method CallEnd)) (last : List Event) (left : ℕ → List (Item CallEnd)) (outcome : Outcome) →
-    IsServer s t output → IsTold t past.pieces → AreActions s actions → ((id : ℕ) → IsUnended (standing s actions id)) → t.reported ≡ map Asked (calls_in actions ++ next) →
-    ((id : ℕ) → IsTaken t id (standing s actions id).items (left id)) → ((id : ℕ) → (left id ≡ []) ⊎ (has_end (queued_on t id) ≡ false)) → past.own ≡ events_in actions ++ last →
+pub unread_serves : (s : Setting) (t : CallTrace) (output : List ℕ) (told late : List Piece) (rest : List ℕ) (actions : List Action) (past : Past) (next : List (Call Method CallEnd)) (last : List Event) (left : ℕ → List (Item CallEnd)) (outcome : Outcome) →
+    IsServer s t output → MayBeRest t.connection_trace rest → IsTold t told → past.pieces ≡ told ++ late → sent_bytes late ≡ [] →
+    AreActions s actions → ((id : ℕ) → IsUnended (standing s actions id)) → t.reported ≡ map Asked (calls_in actions ++ next) →
+    ((id : ℕ) → IsTaken t id (standing s actions id).items (left id) ⊎ IsAhead t id (standing s actions id).items) → ((id : ℕ) → (left id ≡ []) ⊎ (has_end (queued_on t id) ≡ false)) → past.own ≡ events_in actions ++ last →
     ((others : List (Call Method CallEnd)) → IsOver s (end_of (Some outcome)) actions (next ++ others) last) → reads_all (Some outcome) ≡ false → HasCause s past (account_of t output rest actions) (Some outcome) →
     Serves s past (account_of t output rest actions) (Some outcome)
-unread_serves s t output rest actions past next last left outcome h told each unended reported taken behind did over unread cause =
+unread_serves s t output told late rest actions past next last left outcome h may is pieces quiet each unended reported taken behind did over unread cause =
     let others : List (Call Method CallEnd) = flat_map asked_of h.sound.reported.0 in
-    serves_with s t output h past told rest actions (Some outcome) (λ all. never all)
-    (answers_begin s t output h actions left taken behind unended)
+    let limits = t.connection_trace.limits in
+    let heads = t.connection_trace.heads in
+    let frames = t.connection_trace.frames in
+    serves_by s t output h past rest actions (Some outcome)
+    (subst (λ (ps : List Piece). IsReadExchange Server limits heads ps output frames (reads_all (Some outcome)) rest) (sym pieces)
+    (late_exchange s t output h told late is quiet (reads_all (Some outcome)) rest unread))
+    (subst (λ (ps : List Piece). SendsOnly Server limits heads none_asked (received_bytes ps) rest frames) (sym pieces) (late_sends s t output h told late is rest may))
+    (answers_begin s t output h rest may actions left taken behind unended)
     (record {
       each = each;
       rest = next ++ others;
@@ -220,6 +246,3 @@ unread_serves s t output rest actions past next last left outcome h told each un
       did = did;
       over = over others;
     }) cause
-  where
-    never : {A : Type 0} → reads_all (Some outcome) ≡ true → A
-    never all = let wrong : true ≡ false = sym all ∙ unread in absurd cc

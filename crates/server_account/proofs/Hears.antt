@@ -17,13 +17,13 @@ use Rattle.call_answers.specs.declared.orders.Setting.{Setting}
 use Rattle.call_orders.specs.Calls.{Action, Handles, Collects, Continues, CallState, NotBegun, Modifies, Receives, Responds, Over, Standing, refusal_for, standing, stream_of}
 use Rattle.call_orders.specs.Owed.{has_end}
 use Rattle.call_orders.specs.Actions.{calls_in, events_in}
-use Rattle.call_orders.specs.Orders.{is_stopped}
+use Rattle.call_orders.specs.Orders.{IsRunning, is_stopped}
 use Rattle.call_orders.proofs.Counts.{events_more, standing_other}
 use Rattle.call_orders.proofs.Holding.{calls_more}
 use Rattle.session_engine.specs.Laws.{FollowsBy}
 use Rattle.session_engine.specs.Queries.{OpenCallsView}
 use Rattle.session_engine.specs.Stands.{IsUnended}
-use Rattle.server_account.specs.Agreeing.{AreHandled, IsCutOff, IsTaken, left_on, none_left, told_more}
+use Rattle.server_account.specs.Agreeing.{AreBrought, AreHandled, IsCutOff, IsTaken, left_on, none_left, told_more}
 use Rattle.server_account.proofs.Prefixes.{same_ends}
 use Rattle.server_account.proofs.Takes.{queued_more}
 
@@ -84,29 +84,43 @@ module _ (s : Setting) (t : CallTrace) (calls new : OpenCallsView) (actions : Li
   still_running events is quiet =
       list_any-append is_stopped (events_in actions) events ∙ neither (list_any is_stopped (events_in actions)) (list_any is_stopped events) h.running (ap (list_any is_stopped) is ∙ quiet)
 
+-- where no command was answered Stopped, what was brought was handled
+runs : (s : Setting) (t : CallTrace) (calls : OpenCallsView) (actions : List Action) (own : List Event) (left : ℕ → List (Item CallEnd)) → AreBrought s t calls actions own left → IsRunning actions → AreHandled s t calls actions own left
+runs s t calls actions own left h running = record { open_now = h.open_now; reported = h.reported; did = h.did; running = running; taken = h.taken }
+
 -- ---- each kind of action
 
 module _ (s : Setting) (t : CallTrace) (calls new : OpenCallsView) (actions : List Action) (own : List Event) (h : AreHandled s t calls actions own none_left) where
   -- what a client did but for what is declined
-  pub handled_hears : (did : List Event) (stream : ℕ) (c : Call Method CallEnd) (items : List (Item CallEnd)) (k : FollowsBy s new actions stream (Handles c did) (λ _. items)) → stream_in c ≡ stream →
-      answer_to t (Asked c) ≡ [] → list_any is_stopped did ≡ false → AreHandled s (told_more t c) new (Handles c did k.cut ∷ actions) (own ++ did) (left_on stream items)
-  handled_hears did stream c items k on none quiet = record {
+  pub brought_hears : (did : List Event) (stream : ℕ) (c : Call Method CallEnd) (items : List (Item CallEnd)) (k : FollowsBy s new actions stream (Handles c did) (λ _. items)) → stream_in c ≡ stream →
+      answer_to t (Asked c) ≡ [] → AreBrought s (told_more t c) new (Handles c did k.cut ∷ actions) (own ++ did) (left_on stream items)
+  brought_hears did stream c items k on none = record {
     open_now = k.open_now;
     reported = ap (λ (l : List PeerEvent). l ++ Asked c ∷ []) h.reported ∙ sym (ap (map Asked) (calls_more (Handles c did k.cut) actions) ∙ map-append Asked (calls_in actions) (c ∷ []));
     did = did_more s t calls new actions own did stream (Handles c did) items h k on did refl ∙ sym (events_more (Handles c did k.cut) actions);
-    running = ap (list_any is_stopped) (events_more (Handles c did k.cut) actions) ∙ still_running s t calls new actions own did stream (Handles c did) items h k on did refl quiet;
     taken = λ id. taken_by s t calls new actions own did stream (Handles c did) items h k on (told_more t c) (λ n its left. same_taken t c none n its left) id (stream == id) refl;
+  }
+
+  pub handled_hears : (did : List Event) (stream : ℕ) (c : Call Method CallEnd) (items : List (Item CallEnd)) (k : FollowsBy s new actions stream (Handles c did) (λ _. items)) → stream_in c ≡ stream →
+      answer_to t (Asked c) ≡ [] → list_any is_stopped did ≡ false → AreHandled s (told_more t c) new (Handles c did k.cut ∷ actions) (own ++ did) (left_on stream items)
+  handled_hears did stream c items k on none quiet =
+      runs s (told_more t c) new (Handles c did k.cut ∷ actions) (own ++ did) (left_on stream items) (brought_hears did stream c items k on none)
+      (ap (list_any is_stopped) (events_more (Handles c did k.cut) actions) ∙ still_running s t calls new actions own did stream (Handles c did) items h k on did refl quiet)
+
+  pub brought_collects : (did : List Event) (stream : ℕ) (items : List (Item CallEnd)) (k : FollowsBy s new actions stream (Collects stream did) (λ _. items)) →
+      AreBrought s t new (Collects stream did k.cut ∷ actions) (own ++ did) (left_on stream items)
+  brought_collects did stream items k = record {
+    open_now = k.open_now;
+    reported = h.reported ∙ sym (ap (map Asked) (calls_more (Collects stream did k.cut) actions ∙ append-nil (calls_in actions)));
+    did = did_more s t calls new actions own did stream (Collects stream did) items h k refl did refl ∙ sym (events_more (Collects stream did k.cut) actions);
+    taken = λ id. taken_by s t calls new actions own did stream (Collects stream did) items h k refl t (λ n its left j. j) id (stream == id) refl;
   }
 
   pub handled_collects : (did : List Event) (stream : ℕ) (items : List (Item CallEnd)) (k : FollowsBy s new actions stream (Collects stream did) (λ _. items)) → list_any is_stopped did ≡ false →
       AreHandled s t new (Collects stream did k.cut ∷ actions) (own ++ did) (left_on stream items)
-  handled_collects did stream items k quiet = record {
-    open_now = k.open_now;
-    reported = h.reported ∙ sym (ap (map Asked) (calls_more (Collects stream did k.cut) actions ∙ append-nil (calls_in actions)));
-    did = did_more s t calls new actions own did stream (Collects stream did) items h k refl did refl ∙ sym (events_more (Collects stream did k.cut) actions);
-    running = ap (list_any is_stopped) (events_more (Collects stream did k.cut) actions) ∙ still_running s t calls new actions own did stream (Collects stream did) items h k refl did refl quiet;
-    taken = λ id. taken_by s t calls new actions own did stream (Collects stream did) items h k refl t (λ n its left j. j) id (stream == id) refl;
-  }
+  handled_collects did stream items k quiet =
+      runs s t new (Collects stream did k.cut ∷ actions) (own ++ did) (left_on stream items) (brought_collects did stream items k)
+      (ap (list_any is_stopped) (events_more (Collects stream did k.cut) actions) ∙ still_running s t calls new actions own did stream (Collects stream did) items h k refl did refl quiet)
 
   pub handled_continues : (stream : ℕ) (items : List (Item CallEnd)) (k : FollowsBy s new actions stream (Continues stream) (λ _. items)) → AreHandled s t new (Continues stream k.cut ∷ actions) own (left_on stream items)
   handled_continues stream items k = record {

@@ -17,3 +17,9 @@ pub mod Starts
 pub mod Credits
 pub mod Begins
 pub mod Cuts
+pub mod Rests
+pub mod Replies
+pub mod Going
+pub mod Late
+pub mod Steady
+pub mod Writes

@@ -1,5 +1,5 @@
 -- Behind a pump each stream is answered, unless its window or the connection's is used up; and no more waits than streams are owed.
-use Rattle.std.proofs.Common.{◌≡◌, ◌⊎◌, inl, inr, ℕ, ◌+◌, ◌-◌, ◌≤◌, Bool, false, true, List, [], ◌∷◌, ◌++◌, length, Option, Some, None, refl, sym, ap, subst, ◌∙◌, arith, sum_by, append-nil, length-append}
+use Rattle.std.proofs.Common.{◌≡◌, ◌⊎◌, inl, inr, ℕ, ◌+◌, ◌-◌, ◌≤◌, ◌<◌, Bool, false, true, List, [], ◌∷◌, ◌++◌, length, Option, Some, None, refl, sym, ap, subst, ◌∙◌, arith, sum_by, append-nil, length-append}
 use Rattle.std.specs.Prelude.{nat_lt}
 use Rattle.std.specs.List.{flat_map, list_any}
 use Rattle.std.proofs.lemmas.Bool.{ltb-true, ltb-false}
@@ -67,7 +67,7 @@ module _ (s : Setting) (t u : CallTrace) (later : List ℕ) (h : IsServer s u la
   AllIsTaken = AnswersAre response_fields (call_end_of u.numbers) u.connection_trace.frames id (queued_on u id)
 
   abbrev HasNoRoom : Type 0
-  HasNoRoom = (is_live Server u.connection_trace.frames id ≡ true) × (may_send u.connection_trace.frames id ≡ 0)
+  HasNoRoom = (is_live Server u.connection_trace.frames id ≡ true) × (may_send u.connection_trace.frames id ≡ 0) × (0 < unsent_on u id)
 
   answered_idle : is_begun Server u.connection_trace.frames id ≡ false → AllIsTaken
   answered_idle unbegun =
@@ -94,7 +94,7 @@ module _ (s : Setting) (t u : CallTrace) (later : List ℕ) (h : IsServer s u la
       live_as = ap (λ (r : Role). is_live r u.connection_trace.frames id) h.role ∙ l
 
       by : (b : Bool) → nat_lt 0 (unsent_on u id) ≡ b → AllIsTaken ⊎ HasNoRoom
-      by true some = inr (l, pumps.full alive id live_as (ltb-true 0 (unsent_on u id) some))
+      by true some = let waits : 0 < unsent_on u id = ltb-true 0 (unsent_on u id) some in inr (l, pumps.full alive id live_as waits, waits)
       by false none =
           let nothing : unsent_on u id ≡ 0 = omega (arith, ltb-false 0 (unsent_on u id) none) in
           inl (all_is_answered written_blocks_are_read u later h.sound h.suited h.role id nothing (pumps.ended alive id live_as nothing))

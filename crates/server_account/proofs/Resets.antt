@@ -53,7 +53,7 @@ is_part f = is_data f || is_headers f || is_continuation f
 abbrev is_part_type : ℕ → Bool
 is_part_type n = n == 0 || n == 1 || n == 9
 
-part_by_type : (f : Frame) (n : ℕ) → type_of f ≡ n → is_part_type n ≡ false → is_part f ≡ false
+pub part_by_type : (f : Frame) (n : ℕ) → type_of f ≡ n → is_part_type n ≡ false → is_part f ≡ false
 part_by_type (Content b) n e other = let wrong : true ≡ false = ap is_part_type e ∙ other in absurd cc
 part_by_type (Headers b) n e other = let wrong : true ≡ false = ap is_part_type e ∙ other in absurd cc
 part_by_type (Continuation b) n e other = let wrong : true ≡ false = ap is_part_type e ∙ other in absurd cc
@@ -79,10 +79,10 @@ part_by_ack (GoAway b) e = refl
 part_by_ack (WindowUpdate b) e = refl
 part_by_ack (Unknown number b) e = refl
 
-type_from : (f : Frame) (text : List ℕ) → frame_text f ≡ text → type_of f ≡ get_or text 3 0
+pub type_from : (f : Frame) (text : List ℕ) → frame_text f ≡ text → type_of f ≡ get_or text 3 0
 type_from f text e = ap (λ (l : List ℕ). get_or l 3 0) e
 
-no_block : (o : Option Block) (f : Frame) → is_part f ≡ false → block_with o f ≡ None
+pub no_block : (o : Option Block) (f : Frame) → is_part f ≡ false → block_with o f ≡ None
 no_block None (Content b) e = absurd cc
 no_block None (Headers b) e = absurd cc
 no_block None (Continuation b) e = refl

@@ -34,9 +34,10 @@ use Rattle.session_engine.specs.Stands.{IsUnended}
 use Rattle.server_turns.specs.declared.outcome.Outcome.{Outcome}
 use Rattle.server_turns.specs.Past.{Past}
 use Rattle.server_turns.specs.Serving.{EndsWhole, HasCause, NoneOpen, Serves, Unbroken, calls_spelled, end_of, none_asked, reads_all}
-use Rattle.server_account.specs.Agreeing.{AreHandled, IsCutOff, IsServer, IsSettled, IsTaken, IsTold, account_of, none_left}
+use Rattle.server_account.specs.Agreeing.{AreHandled, IsAhead, IsCutOff, IsServer, IsSettled, IsTaken, IsTold, MayBeRest, account_of, none_left}
 use Rattle.server_account.proofs.Prefixes.{end_is_owed, first_before_end, first_goes_on, message_before_end, message_first}
 use Rattle.server_account.proofs.Resets.{stays_unclosed, unended_response}
+use Rattle.server_account.proofs.Rests.{alive_rest}
 
 -- ---- what is spelled
 
@@ -81,29 +82,42 @@ cut_first t id items waiting cut first =
     taken (inr (answer, same)) = message_before_end cut.taken answer (subst IsMessageFirst same first)
 
 module _ (s : Setting) (t : CallTrace) (output : List ℕ) (h : IsServer s t output) where
-  sends_as : (rest : List ℕ) → SendsOnly Server t.connection_trace.limits t.connection_trace.heads none_asked t.connection_trace.fed rest t.connection_trace.frames
-  sends_as rest = subst (λ (r : Role). SendsOnly r t.connection_trace.limits t.connection_trace.heads none_asked t.connection_trace.fed rest t.connection_trace.frames) h.role (h.sends rest)
+  pub sends_as : (rest : List ℕ) → MayBeRest t.connection_trace rest → SendsOnly Server t.connection_trace.limits t.connection_trace.heads none_asked t.connection_trace.fed rest t.connection_trace.frames
+  sends_as rest may = subst (λ (r : Role). SendsOnly r t.connection_trace.limits t.connection_trace.heads none_asked t.connection_trace.fed rest t.connection_trace.frames) h.role (h.sends rest may)
 
-  pub cut_unclosed : (id : ℕ) (items : List (Item CallEnd)) → IsCutOff t id items → is_ended_by (sent t.connection_trace.frames) id ≡ false
-  cut_unclosed id items cut =
+  pub cut_unclosed : (rest : List ℕ) → MayBeRest t.connection_trace rest → (id : ℕ) (items : List (Item CallEnd)) → IsCutOff t id items → is_ended_by (sent t.connection_trace.frames) id ≡ false
+  cut_unclosed rest may id items cut =
       ap (λ (x : List Step). is_ended_by (sent x) id) cut.frames_are
-      ∙ stays_unclosed t.connection_trace.limits t.connection_trace.heads none_asked t.connection_trace.fed [] id cut.early cut.later
-      (subst (SendsOnly Server t.connection_trace.limits t.connection_trace.heads none_asked t.connection_trace.fed []) cut.frames_are (sends_as [])) cut.reset cut.unclosed
+      ∙ stays_unclosed t.connection_trace.limits t.connection_trace.heads none_asked t.connection_trace.fed rest id cut.early cut.later
+      (subst (SendsOnly Server t.connection_trace.limits t.connection_trace.heads none_asked t.connection_trace.fed rest) cut.frames_are (sends_as rest may)) cut.reset cut.unclosed
 
   abbrev BeginsOn : List (Item CallEnd) → ℕ → Type 0
   BeginsOn owed id = (messages : List (List ℕ)) × (rest : List ℕ) × (end : Option CallEnd)
       × CarriesResponse response_fields (call_end_of t.numbers) t.connection_trace.written (sent t.connection_trace.frames) id messages rest end × IsPrefixOf messages rest end owed
       × (has_begun (parts id t.connection_trace.written (sent t.connection_trace.frames)) ≡ true → IsMessageFirst owed)
 
-  -- what is written spells a first part of what is owed
-  pub answers_begin : (actions : List Action) (left : ℕ → List (Item CallEnd)) → ((id : ℕ) → IsTaken t id (standing s actions id).items (left id)) → ((id : ℕ) → IsLeftBehind t id (left id)) →
+  -- What is written spells a first part of what is owed, also where the answer to a refusal is ahead of it.
+  pub answers_begin : (rest : List ℕ) → MayBeRest t.connection_trace rest → (actions : List Action) (left : ℕ → List (Item CallEnd)) →
+      ((id : ℕ) → IsTaken t id (standing s actions id).items (left id) ⊎ IsAhead t id (standing s actions id).items) → ((id : ℕ) → IsLeftBehind t id (left id)) →
       ((id : ℕ) → IsUnended (standing s actions id)) → AnswersBegin response_fields (call_end_of s.numbering) t.connection_trace.frames (answers s actions)
-  answers_begin actions left taken behind unended =
+  answers_begin left_over may actions left taken behind unended =
       subst (λ (n : Numbers). AnswersBegin response_fields (call_end_of n) t.connection_trace.frames (answers s actions)) h.numbers
       (t.connection_trace.written, read written_blocks_are_read t output h.sound, λ id. by id (spelled_as Server t output h.sound h.suited h.role id) (taken id))
     where
-      by : (id : ℕ) (on : CarriesResponseOn t id) → IsTaken t id (standing s actions id).items (left id) → BeginsOn (answers s actions id) id
-      by id on (inl same) = (
+      by : (id : ℕ) (on : CarriesResponseOn t id) → IsTaken t id (standing s actions id).items (left id) ⊎ IsAhead t id (standing s actions id).items → BeginsOn (answers s actions id) id
+      by id on (inr ahead) =
+          let items : List (Item CallEnd) = (standing s actions id).items in
+          let waiting : List (Item CallEnd) = waiting_in (standing s actions id).state in
+          let unclosed : on.end ≡ None =
+          unended_response response_fields (call_end_of t.numbers) t.connection_trace.written (sent t.connection_trace.frames) id on.messages on.rest on.end on.spells ahead.unclosed in (
+            on.messages,
+            on.rest,
+            on.end,
+            on.spells,
+            first_goes_on on.messages on.rest on.end items waiting unclosed (first_before_end on.messages on.rest on.end items ahead.answer unclosed (subst (IsPrefixOf on.messages on.rest on.end) ahead.queued on.front)),
+            λ begun. message_first items waiting (message_before_end items ahead.answer (subst IsMessageFirst ahead.queued (on.begins begun))),
+          )
+      by id on (inl (inl same)) = (
         on.messages,
         on.rest,
         on.end,
@@ -112,13 +126,13 @@ module _ (s : Setting) (t : CallTrace) (output : List ℕ) (h : IsServer s t out
         λ begun. subst (λ (l : List (Item CallEnd)). IsMessageFirst (l ++ waiting_in (standing s actions id).state)) same
             (message_first (queued_on t id ++ left id) (waiting_in (standing s actions id).state) (message_first (queued_on t id) (left id) (on.begins begun))),
       )
-      by id on (inr cut) = (
+      by id on (inl (inr cut)) = (
         on.messages,
         on.rest,
         on.end,
         on.spells,
         cut_front t id (standing s actions id).items (waiting_in (standing s actions id).state) on.messages on.rest on.end cut
-            (unended_response response_fields (call_end_of t.numbers) t.connection_trace.written (sent t.connection_trace.frames) id on.messages on.rest on.end on.spells (cut_unclosed id (standing s actions id).items cut)) on.front,
+            (unended_response response_fields (call_end_of t.numbers) t.connection_trace.written (sent t.connection_trace.frames) id on.messages on.rest on.end on.spells (cut_unclosed left_over may id (standing s actions id).items cut)) on.front,
         λ begun. cut_first t id (standing s actions id).items (waiting_in (standing s actions id).state) cut (on.begins begun),
       )
 
@@ -130,13 +144,31 @@ module _ (s : Setting) (t : CallTrace) (output : List ℕ) (h : IsServer s t out
   pub resets_as : ResetsErrors Server t.connection_trace.limits t.connection_trace.heads t.connection_trace.frames
   resets_as = subst (λ (r : Role). ResetsErrors r t.connection_trace.limits t.connection_trace.heads t.connection_trace.frames) h.role h.sound.connection_trace.resets
 
+  -- Where its exchange, what it sent, its orders and its cause are right, the promise is kept.
+  pub serves_by : (past : Past) (rest : List ℕ) (actions : List Action) (outcome : Option Outcome) →
+      IsReadExchange Server t.connection_trace.limits t.connection_trace.heads past.pieces output t.connection_trace.frames (reads_all outcome) rest →
+      SendsOnly Server t.connection_trace.limits t.connection_trace.heads none_asked (received_bytes past.pieces) rest t.connection_trace.frames →
+      AnswersBegin response_fields (call_end_of s.numbering) t.connection_trace.frames (answers s actions) →
+      AreOrders s (calls_spelled (account_of t output rest actions)) past.own (end_of outcome) actions → HasCause s past (account_of t output rest actions) outcome →
+      Serves s past (account_of t output rest actions) outcome
+  serves_by past rest actions outcome exchange sends spelled orders cause = record {
+    limits = h.limits;
+    exchange = exchange;
+    orders = orders;
+    spelled = spelled;
+    sends = sends;
+    first = h.first;
+    resets = λ _. resets_as;
+    cause = cause;
+  }
+
   module _ (past : Past) (told : IsTold t past.pieces) where
-    front_as : BeginWithFrames (peer_preface Server) (received_bytes past.pieces) (received t.connection_trace.frames)
+    pub front_as : BeginWithFrames (peer_preface Server) (received_bytes past.pieces) (received t.connection_trace.frames)
     front_as =
         subst (λ (bytes : List ℕ). BeginWithFrames (peer_preface Server) bytes (received t.connection_trace.frames)) told.fed
         (subst (λ (r : Role). BeginWithFrames (peer_preface r) t.connection_trace.fed (received t.connection_trace.frames)) h.role h.sound.connection_trace.front)
 
-    text_as : own_preface Server ++ sent_text t.connection_trace.frames ≡ sent_bytes past.pieces ++ output
+    pub text_as : own_preface Server ++ sent_text t.connection_trace.frames ≡ sent_bytes past.pieces ++ output
     text_as =
         ap (λ (r : Role). own_preface r ++ sent_text t.connection_trace.frames) (sym h.role) ∙ h.sound.connection_trace.text ∙ ap (λ (bytes : List ℕ). bytes ++ output) told.dropped
 
@@ -145,25 +177,18 @@ module _ (s : Setting) (t : CallTrace) (output : List ℕ) (h : IsServer s t out
         IsReadExchange Server t.connection_trace.limits t.connection_trace.heads past.pieces output t.connection_trace.frames is_all rest
     exchange_of is_all rest whole = record { known = known_as; front = front_as; whole = whole; text = text_as; order = told.order }
 
-    sends_told : (rest : List ℕ) → SendsOnly Server t.connection_trace.limits t.connection_trace.heads none_asked (received_bytes past.pieces) rest t.connection_trace.frames
-    sends_told rest = subst (λ (bytes : List ℕ). SendsOnly Server t.connection_trace.limits t.connection_trace.heads none_asked bytes rest t.connection_trace.frames) told.fed (sends_as rest)
+    sends_told : (rest : List ℕ) → MayBeRest t.connection_trace rest → SendsOnly Server t.connection_trace.limits t.connection_trace.heads none_asked (received_bytes past.pieces) rest t.connection_trace.frames
+    sends_told rest may =
+        subst (λ (bytes : List ℕ). SendsOnly Server t.connection_trace.limits t.connection_trace.heads none_asked bytes rest t.connection_trace.frames) told.fed (sends_as rest may)
 
     -- Where its orders and its cause are right, the promise is kept.
-    pub serves_with : (rest : List ℕ) (actions : List Action) (outcome : Option Outcome) → (reads_all outcome ≡ true → stop_of Server t.connection_trace.limits t.connection_trace.heads t.connection_trace.frames ≡ None →
+    pub serves_with : (rest : List ℕ) → MayBeRest t.connection_trace rest → (actions : List Action) (outcome : Option Outcome) → (reads_all outcome ≡ true → stop_of Server t.connection_trace.limits t.connection_trace.heads t.connection_trace.frames ≡ None →
         AreFrames (peer_preface Server) (received_bytes past.pieces) (received t.connection_trace.frames) rest) →
         AnswersBegin response_fields (call_end_of s.numbering) t.connection_trace.frames (answers s actions) →
         AreOrders s (calls_spelled (account_of t output rest actions)) past.own (end_of outcome) actions → HasCause s past (account_of t output rest actions) outcome →
         Serves s past (account_of t output rest actions) outcome
-    serves_with rest actions outcome whole spelled orders cause = record {
-      limits = h.limits;
-      exchange = exchange_of (reads_all outcome) rest whole;
-      orders = orders;
-      spelled = spelled;
-      sends = sends_told rest;
-      first = h.first;
-      resets = λ _. resets_as;
-      cause = cause;
-    }
+    serves_with rest may actions outcome whole spelled orders cause =
+        serves_by past rest actions outcome (exchange_of (reads_all outcome) rest whole) (sends_told rest may) spelled orders cause
 
 -- ---- the calls that were handled
 
@@ -218,7 +243,8 @@ pub agreement_serves : (s : Setting) (t : CallTrace) (output rest : List ℕ) (o
     AreHandled s t open_calls actions past.own none_left → IsSettled t rest →
     (past.is_ended ≡ true → EndsWhole s past (account_of t output rest actions) × NoneOpen s past (account_of t output rest actions)) → Serves s past (account_of t output rest actions) None
 agreement_serves s t output rest open_calls past actions h told served settled ended =
-    serves_with s t output h past told rest actions None (λ _ _. frames_are s t output rest h past told settled)
-    (answers_begin s t output h actions none_left served.taken (λ id. inl refl) served.open_now.unended)
+    let may = alive_rest t.connection_trace rest settled.alive in
+    serves_with s t output h past told rest may actions None (λ _ _. frames_are s t output rest h past told settled)
+    (answers_begin s t output h rest may actions none_left (λ id. inl (served.taken id)) (λ id. inl refl) served.open_now.unended)
     (orders_go_on s t output rest h open_calls actions past none_left served settled.all)
     (unbroken s t output rest h past told settled actions, ended)

@@ -89,7 +89,7 @@ module _ (s : Setting) (limits : H2Limits) (first : List Frame) (output : List �
       numbers = refl;
       limits = is;
       first = ([], ap (flat_map frame_text) (all_sent first) ∙ text ∙ sym (append-nil (first_text Server limits)));
-      sends = λ rest. sends sound [] rest;
+      sends = λ rest _. sends sound [] rest;
       suited = λ id. All-nil (λ (what : Item CallEnd). suits Server what ≡ true);
     };
     told = record { fed = refl; dropped = refl; order = λ early late before behind f split x. absurd (no_received first before behind f x) };

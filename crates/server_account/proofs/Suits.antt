@@ -1,16 +1,17 @@
--- The answers to what is declined are ends of a server.
+-- The answers to what is declined are ends of a server, and none is for want of memory.
 use Rattle.std.proofs.Common.{◌≡◌, ℕ, ◌==◌, Bool, true, false, List, [], ◌∷◌, ◌++◌, map, Result, Ok, Err, refl, sym, ap, subst, ◌∙◌, append-nil}
-use Rattle.std.specs.Prelude.{if◌then◌else◌}
+use Rattle.std.specs.Prelude.{Option, Some, None, if◌then◌else◌, not}
 use Rattle.std.specs.List.{All, flat_map}
 use Rattle.std.proofs.lemmas.List.Concat.{flat_map-append}
 use Rattle.std.proofs.lemmas.List.Elements.{All-append, All-cons, All-nil}
 use Rattle.grpc_framing.specs.declared.front.Front.{Front}
 use Rattle.grpc_framing.specs.declared.front.Front.TheVariants as front
 use Rattle.grpc_heads.specs.CallEnd.{CallEnd, compressed, method_by, too_long, truncated}
-use Rattle.grpc_heads.specs.Heads.{head_of}
+use Rattle.grpc_heads.specs.Heads.{call_of, head_of, served}
 use Rattle.grpc_heads.specs.declared.head.HeadRead.{HeadRead}
 use Rattle.grpc_heads.specs.declared.head.HeadRead.TheVariants as head
 use Rattle.grpc_heads.specs.declared.head.Method.{Method}
+use Rattle.hpack_tables.specs.Malformed.{is_malformed_request}
 use Rattle.hpack_tables.specs.declared.field.Field.{Field}
 use Rattle.h2_exchange.specs.declared.role.Role.{Role}
 use Rattle.h2_exchange.specs.declared.role.Role.TheVariants.{Server}
@@ -22,13 +23,14 @@ use Rattle.h2_exchange.specs.Stops.{events}
 use Rattle.grpc_stream.specs.CallTrace.{CallTrace, Answered, Asked, IsSoundCallTrace, PeerEvent, is_ended, queued_on, reported_by, reported_in, suits}
 use Rattle.grpc_stream.specs.Laws.{AreSuited}
 use Rattle.grpc_stream.specs.NextEvent.{AppendsPeerEvents, none, one, answer_to, asked_of}
+use Rattle.server_turns.specs.Serving.{is_want_of_memory}
 use Rattle.server_account.proofs.Serves.{asked_back}
 use Rattle.server_account.proofs.Takes.{queued_more}
 
 -- ---- what events spell
 
 abbrev pub IsSuited : Call Method CallEnd → Type 0
-IsSuited (Declined id answer) = suits Server (Finish answer) ≡ true
+IsSuited (Declined id answer) = (suits Server (Finish answer) ≡ true) × (is_want_of_memory (Finish answer) ≡ false)
 IsSuited other = Unit {0}
 
 abbrev pub Each : List (Call Method CallEnd) → Type 0
@@ -46,14 +48,23 @@ each_if false cs h = tt
 -- a head is refused with such an end
 abbrev SuitsIfErr : Result Method CallEnd → Type 0
 SuitsIfErr (Ok method) = Unit {0}
-SuitsIfErr (Err answer) = suits Server (Finish answer) ≡ true
+SuitsIfErr (Err answer) = (suits Server (Finish answer) ≡ true) × (is_want_of_memory (Finish answer) ≡ false)
 
-head_suits : (h : HeadRead) → SuitsIfErr (method_by h)
-head_suits (head.Method method) = tt
-head_suits (head.Status ending) = refl
-head_suits (head.Http status) = refl
-head_suits head.Malformed = refl
-head_suits head.NoMemory = refl
+served_suits : (m : Option Method) (is_compressed is_late : Bool) → SuitsIfErr (method_by (served m is_compressed is_late))
+served_suits None is_compressed is_late = (refl, refl)
+served_suits (Some method) true is_late = (refl, refl)
+served_suits (Some method) false true = (refl, refl)
+served_suits (Some method) false false = tt
+
+first_suits : (malformed post grpc : Bool) (h : HeadRead) → SuitsIfErr (method_by h) → SuitsIfErr (method_by (if malformed then head.Malformed else if not post then head.Http 405 else if not grpc then head.Http 415 else h))
+first_suits true post grpc h fits = (refl, refl)
+first_suits false false grpc h fits = (refl, refl)
+first_suits false true false h fits = (refl, refl)
+first_suits false true true h fits = fits
+
+head_suits : (fields : List Field) → SuitsIfErr (method_by (head_of fields))
+unfolding head_of
+head_suits fields = first_suits (is_malformed_request fields) _ _ (call_of fields) (served_suits _ _ _)
 
 abbrev method_of : List Field → Result Method CallEnd
 method_of fields = method_by (head_of fields)
@@ -69,8 +80,8 @@ head_each id false (Ok method) h = (tt, tt)
 refusals_each : (id : ℕ) (f : Front) → Each (refusals (λ fields. method_by (head_of fields)) compressed too_long truncated id f)
 refusals_each id (front.Message n) = tt
 refusals_each id front.NeedMore = tt
-refusals_each id front.Compressed = (refl, tt)
-refusals_each id front.TooLong = (refl, tt)
+refusals_each id front.Compressed = ((refl, refl), tt)
+refusals_each id front.TooLong = ((refl, refl), tt)
 
 requests_each : (id : ℕ) (ms : List (List ℕ)) (f : Front) → Each (map (Request id) ms ++ refusals (λ fields. method_by (head_of fields)) compressed too_long truncated id f)
 requests_each id [] f = refusals_each id f
@@ -78,10 +89,10 @@ requests_each id (m ∷ ms) f = (tt, requests_each id ms f)
 
 end_each : (id : ℕ) (rest : List ℕ) → Each (end_calls (λ fields. method_by (head_of fields)) compressed too_long truncated id rest)
 end_each id [] = (tt, tt)
-end_each id (b ∷ rest) = (refl, tt)
+end_each id (b ∷ rest) = ((refl, refl), tt)
 
 event_each : (past : List Event) (e : Event) → Each (spells past e)
-event_each past (Head id fields last) = head_each id last (method_by (head_of fields)) (head_suits (head_of fields))
+event_each past (Head id fields last) = head_each id last (method_by (head_of fields)) (head_suits fields)
 event_each past (Data id bytes) =
     each_if (is_going (λ fields. method_by (head_of fields)) compressed too_long truncated id past)
     (map (Request id) (further (bytes_on id past) bytes) ++ refusals (λ fields. method_by (head_of fields)) compressed too_long truncated id (cut (bytes_on id past ++ bytes)).ending)
@@ -98,7 +109,7 @@ all_each past (e ∷ es) = each_append (spells past e) (collect spells (past ++ 
 
 -- ---- what is reported
 
-each_front : (cs ds : List (Call Method CallEnd)) → Each (cs ++ ds) → Each cs
+pub each_front : (cs ds : List (Call Method CallEnd)) → Each (cs ++ ds) → Each cs
 each_front [] ds h = tt
 each_front (c ∷ cs) ds (now, others) = (now, each_front cs ds others)
 
@@ -136,7 +147,7 @@ module _ (t : CallTrace) (is : t.connection_trace.role ≡ Server) (h : AreSuite
     where
       by : (b : Bool) → AreSuited (record t { reported = t.reported ++ Asked (Declined id answer) ∷ []; taken = t.taken ++ (if b then [] else (id, Finish answer) ∷ []) })
       by true = nothing_taken (t.reported ++ Asked (Declined id answer) ∷ [])
-      by false = answer_taken (t.reported ++ Asked (Declined id answer) ∷ []) id answer fits
+      by false = answer_taken (t.reported ++ Asked (Declined id answer) ∷ []) id answer fits.0
   suited_after (Asked (Begun id method)) fits = nothing_taken (t.reported ++ Asked (Begun id method) ∷ [])
   suited_after (Asked (Request id message)) fits = nothing_taken (t.reported ++ Asked (Request id message) ∷ [])
   suited_after (Asked (Finished id)) fits = nothing_taken (t.reported ++ Asked (Finished id) ∷ [])

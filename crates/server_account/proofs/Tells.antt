@@ -20,7 +20,7 @@ use Rattle.grpc_stream.specs.Laws.{AreSuited}
 use Rattle.grpc_stream.specs.NextEvent.{AppendsPeerEvents, none, one, answer_to, asked_of}
 use Rattle.call_answers.specs.declared.orders.Setting.{Setting}
 use Rattle.server_turns.specs.Serving.{IsServerLimits, none_asked}
-use Rattle.server_account.specs.Agreeing.{IsServer, IsTold}
+use Rattle.server_account.specs.Agreeing.{IsServer, IsTold, MayBeRest}
 use Rattle.server_account.proofs.Events.{Went, appended}
 use Rattle.server_account.proofs.Suits.{Each, each_behind, reported_each, suited_appends}
 
@@ -35,7 +35,7 @@ same_numbers [] t u (none _) = refl
 same_numbers (p ∷ more) t u (one _ _ _ _ h) = same_numbers more (record t { reported = t.reported ++ p ∷ []; taken = t.taken ++ answer_to t p }) u h
 
 module _ (s : Setting) (t u : CallTrace) (output later : List ℕ) (h : IsServer s t output) (gone : Went t.connection_trace u.connection_trace) where
-  pub server_tells : (more : List PeerEvent) → AppendsPeerEvents (record t { connection_trace = u.connection_trace }) more u → IsSoundCallTrace u later → ((rest : List ℕ) → SendsIn none_asked rest u.connection_trace) → IsServer s u later
+  pub server_tells : (more : List PeerEvent) → AppendsPeerEvents (record t { connection_trace = u.connection_trace }) more u → IsSoundCallTrace u later → ((rest : List ℕ) → MayBeRest u.connection_trace rest → SendsIn none_asked rest u.connection_trace) → IsServer s u later
   server_tells more takes sound sends =
       let is : u.connection_trace.role ≡ Server = gone.role ∙ h.role in
       let first : BeginsFirst Server t.connection_trace.limits u.connection_trace.frames =

@@ -1,5 +1,5 @@
 -- Uses of a server's calls that take nothing and tell nothing: a piece is fed, output is dropped, frames are sent.
-use Rattle.std.proofs.Common.{◌≡◌, inl, inr, ℕ, ◌<◌, ◌≤◌, false, List, [], ◌∷◌, ◌++◌, length, map, refl, sym, ap, subst, ◌∙◌, arith, append_assoc, append-nil, length-append}
+use Rattle.std.proofs.Common.{◌≡◌, inl, inr, ℕ, ◌<◌, ◌≤◌, false, List, [], ◌∷◌, ◌++◌, length, map, None, refl, sym, ap, subst, ◌∙◌, arith, append_assoc, append-nil, length-append}
 use Rattle.std.specs.Prelude.{filter, ◌==◌}
 use Rattle.std.specs.List.{flat_map}
 use Rattle.std.proofs.lemmas.List.Concat.{flat_map-append}
@@ -35,8 +35,9 @@ use Rattle.call_answers.specs.declared.orders.Setting.{Setting}
 use Rattle.call_orders.specs.Calls.{Action}
 use Rattle.session_engine.specs.Queries.{OpenCallsView}
 use Rattle.server_turns.specs.Serving.{none_asked}
-use Rattle.server_account.specs.Agreeing.{AreHandled, IsCutOff, IsServer, IsSettled, IsTaken, IsTold}
+use Rattle.server_account.specs.Agreeing.{AreHandled, IsCutOff, IsServer, IsSettled, IsTaken, IsTold, MayBeRest}
 use Rattle.server_account.proofs.Quiet.{ResetNone, same_events, stays_clear}
+use Rattle.server_account.proofs.Rests.{alive_rest}
 
 -- ---- what was done stays done
 
@@ -87,7 +88,7 @@ module _ (s : Setting) (t : CallTrace) (output later piece : List ℕ) where
   pub server_writes : IsSoundCallTrace dropped later → IsServer s t output → IsServer s dropped later
   server_writes sound h = record { sound = sound; role = h.role; numbers = h.numbers; limits = h.limits; first = h.first; sends = h.sends; suited = h.suited }
 
-  given_all : (pieces : List Piece) → IsServer s t output → IsTold t pieces → 0 < length (received t.connection_trace.frames) →
+  pub given_all : (pieces : List Piece) → IsServer s t output → IsTold t pieces → 0 < length (received t.connection_trace.frames) →
       end_of (peer_preface Server) (received t.connection_trace.frames) ≤ length (received_bytes pieces)
   given_all pieces h told some =
       subst (λ (bytes : List ℕ). end_of (peer_preface Server) (received t.connection_trace.frames) ≤ length bytes) told.fed
@@ -138,7 +139,7 @@ module _ (s : Setting) (t : CallTrace) (output later : List ℕ) (fs : List Fram
   abbrev sends : CallTrace
   sends = changed (wrote fs lists) t
 
-  pub server_sends : IsSoundCallTrace sends later → ((rest : List ℕ) → SendsIn none_asked rest sends.connection_trace) → IsServer s t output → IsServer s sends later
+  pub server_sends : IsSoundCallTrace sends later → ((rest : List ℕ) → MayBeRest sends.connection_trace rest → SendsIn none_asked rest sends.connection_trace) → IsServer s t output → IsServer s sends later
   server_sends sound may h = record {
     sound = sound;
     role = h.role;
@@ -188,11 +189,12 @@ module _ (s : Setting) (t u : CallTrace) (output later : List ℕ) (h : IsServer
   sound_sends : IsSoundCallTrace (changed (wrote pumps.fs pumps.lists) t) later
   sound_sends = subst (λ (v : CallTrace). IsSoundCallTrace v later) pumps.goes_on sound
 
-  pub server_pumps : IsServer s u later
-  server_pumps =
+  pub server_pumps : t.connection_trace.refusal ≡ None → IsServer s u later
+  server_pumps alive =
       subst (λ (v : CallTrace). IsServer s v later) (sym pumps.goes_on)
       (server_sends s t output later pumps.fs pumps.lists sound_sends
-      (λ rest. subst (λ (v : CallTrace). SendsIn none_asked rest v.connection_trace) pumps.goes_on (pumps_send none_asked rest t u later sound pumps (h.sends rest))) h)
+      (λ rest _. subst (λ (v : CallTrace). SendsIn none_asked rest v.connection_trace) pumps.goes_on
+      (pumps_send none_asked rest t u later sound pumps (h.sends rest (alive_rest t.connection_trace rest alive)))) h)
 
   pub told_pumps : (pieces : List Piece) → IsTold t pieces → IsTold u pieces
   told_pumps pieces told = subst (λ (v : CallTrace). IsTold v pieces) (sym pumps.goes_on) (told_sends s t output later pumps.fs pumps.lists pieces h told)

@@ -1,17 +1,18 @@
 -- How the parts of a server's connection agree with an account of it: the calls, by what they were used for; the calls that the engine
 -- has open; the bytes of the link; and the entries that the connection made.
-use Rattle.std.specs.Prelude.{◌≡◌, ◌⊎◌, ℕ, ◌==◌, false, true, map, List, [], ◌∷◌, ◌++◌, None, if◌then◌else◌}
+use Rattle.std.specs.Prelude.{◌≡◌, ◌⊎◌, ℕ, ◌==◌, false, true, map, List, [], ◌∷◌, ◌++◌, Some, None, if◌then◌else◌}
 use Rattle.grpc_heads.specs.CallEnd.{CallEnd}
 use Rattle.grpc_heads.specs.declared.head.Method.{Method}
 use Rattle.h2_frames.specs.Stream.{Frames}
 use Rattle.h2_exchange.specs.declared.role.Role.TheVariants.{Server}
 use Rattle.h2_exchange.specs.Calls.{Call}
 use Rattle.h2_exchange.specs.Exchange.{Step, received, sent}
-use Rattle.h2_exchange.specs.Order.{InOrder, Piece, peer_preface, received_bytes, sent_bytes}
+use Rattle.h2_exchange.specs.Order.{AreFrames, InOrder, Piece, peer_preface, received_bytes, sent_bytes}
 use Rattle.h2_exchange.specs.Outgoing.{BeginsFirst}
 use Rattle.h2_exchange.specs.StreamParts.{Item, Finish}
+use Rattle.h2_exchange.specs.Stops.{Stop}
 use Rattle.h2_exchange.specs.Streams.{is_ended_by, is_reset}
-use Rattle.http_connection.specs.ConnectionTrace.{stop_in}
+use Rattle.http_connection.specs.ConnectionTrace.{ConnectionTrace, Stopped, stop_in}
 use Rattle.http_connection.specs.Laws.{SendsIn}
 use Rattle.grpc_stream.specs.CallTrace.{CallTrace, IsSoundCallTrace, Asked, queued_on, reported_in}
 use Rattle.grpc_stream.specs.Laws.{AreSuited}
@@ -37,6 +38,10 @@ account_of t output rest actions = record {
   actions = actions;
 }
 
+-- These bytes may be the rest: where the connection was stopped, and not by its frames, they stand behind all of its whole frames.
+abbrev pub MayBeRest : ConnectionTrace → List ℕ → Type 0
+MayBeRest c rest = (stop : Stop) → c.refusal ≡ Some (Stopped stop) → stop_in c ≡ None → AreFrames (peer_preface c.role) c.fed (received c.frames) rest
+
 -- The calls are those of a server with this setting, which sends what it may and nothing else.
 pub record IsServer (s : Setting) (t : CallTrace) (output : List ℕ) : Type 0 where
   pub sound : IsSoundCallTrace t output
@@ -44,7 +49,7 @@ pub record IsServer (s : Setting) (t : CallTrace) (output : List ℕ) : Type 0 w
   pub numbers : t.numbers ≡ s.numbering
   pub limits : IsServerLimits t.connection_trace.limits
   pub first : BeginsFirst Server t.connection_trace.limits t.connection_trace.frames
-  pub sends : (rest : List ℕ) → SendsIn none_asked rest t.connection_trace
+  pub sends : (rest : List ℕ) → MayBeRest t.connection_trace rest → SendsIn none_asked rest t.connection_trace
   pub suited : AreSuited t
 
 -- The link told what the calls were fed, and what was dropped of their output, in an order that their frames may have.
@@ -73,6 +78,13 @@ pub record IsCutOff (t : CallTrace) (id : ℕ) (items : List (Item CallEnd)) : T
 abbrev pub IsTaken : CallTrace → ℕ → List (Item CallEnd) → List (Item CallEnd) → Type 0
 IsTaken t id items left = (queued_on t id ++ left ≡ items) ⊎ IsCutOff t id items
 
+-- The answer to a refusal was taken behind what the call is owed, and its end is in no frame yet: what is declined isn't handled.
+pub record IsAhead (t : CallTrace) (id : ℕ) (items : List (Item CallEnd)) : Type 0 where
+  pub answer : CallEnd
+  pub queued : queued_on t id ≡ items ++ Finish answer ∷ []
+  pub unended : has_end items ≡ false
+  pub unclosed : is_ended_by (sent t.connection_trace.frames) id ≡ false
+
 -- nothing is left to be taken
 abbrev pub none_left : ℕ → List (Item CallEnd)
 none_left id = []
@@ -87,8 +99,16 @@ told_more t c = record t { reported = t.reported ++ Asked c ∷ []; taken = t.ta
 
 -- ---- what was done
 
--- All that was told of the clients was handled: the open calls stand as these actions leave them, which made these entries, and what
--- the calls are owed was taken, but for what is left of it on each stream.
+-- Of all that was told of the clients something was done: the open calls stand as these actions leave them, which made these entries, and
+-- what the calls are owed was taken, but for what is left of it on each stream.
+pub record AreBrought (s : Setting) (t : CallTrace) (calls : OpenCallsView) (actions : List Action) (own : List Event) (left : ℕ
+    → List (Item CallEnd)) : Type 0 where
+  pub open_now : AreOpen s calls actions
+  pub reported : t.reported ≡ map Asked (calls_in actions)
+  pub did : own ≡ events_in actions
+  pub taken : (id : ℕ) → IsTaken t id (standing s actions id).items (left id)
+
+-- And it was handled: no command was answered Stopped.
 pub record AreHandled (s : Setting) (t : CallTrace) (calls : OpenCallsView) (actions : List Action) (own : List Event) (left : ℕ
     → List (Item CallEnd)) : Type 0 where
   pub open_now : AreOpen s calls actions

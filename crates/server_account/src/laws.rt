@@ -10,7 +10,7 @@ ghost use Rattle.call_orders.specs.Calls.{Action};
 ghost use Rattle.session_engine.specs.Queries.{OpenCallsView};
 ghost use Rattle.server_turns.specs.Past.{Past};
 ghost use Rattle.server_account.specs.Laws.{ActionsAreHandled, AgreementServes, BytesGoOn, CallsBegin, ConnectionStarts, CutsAreCounted, EndsServe};
-ghost use Rattle.server_account.specs.Laws.{EventsComeNext, ItemsAreTaken, PumpsKeepUp};
+ghost use Rattle.server_account.specs.Laws.{EventsComeNext, ItemsAreTaken, PumpsKeepUp, WritesKeep};
 
 /// A connection whose parts agree with an account, and that has received every whole frame, keeps the promise to its client.
 pub fn agreement_serves()
@@ -66,4 +66,9 @@ pub fn pumps_keep_up()
 pub fn ends_serve()
     ensures { (s : Setting) (output : List ℕ) (calls : OpenCallsView) (actions : List Action) (past : Past) (last : List Event)
         → EndsServe s output calls actions past last }
+{}
+
+/// What a connection that is over still writes is taken off its output, and its promise is kept.
+pub fn writes_keep()
+    ensures { WritesKeep }
 {}

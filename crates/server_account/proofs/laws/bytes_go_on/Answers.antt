@@ -21,7 +21,7 @@ returns c = λ s t output later calls actions pieces own left rest. record {
   );
   pumps = λ u h settled sound pumps. (
     record {
-      server = server_pumps s t u output later h.server pumps sound;
+      server = server_pumps s t u output later h.server pumps sound settled.alive;
       told = told_pumps s t u output later h.server pumps sound pieces h.told;
       handled = handled_pumps s t u output later h.server pumps sound calls actions own left h.handled;
     },
