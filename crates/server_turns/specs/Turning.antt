@@ -105,8 +105,9 @@ IsFault (Over over.ReadFault) = Unit {0}
 IsFault (Over over.WriteFault) = Unit {0}
 IsFault other = ⊥
 
--- Or it could not be written that the connection goes away.
+-- Or it could not be written that the connection goes away; or a call under the lock was Spent, which stands before a fault.
 abbrev pub MayFail : TurnEnd → Type 0
+MayFail (Over over.Spent) = Unit {0}
 MayFail (Over (over.Protocol why place)) = Unit {0}
 MayFail (Over (over.Calm cause)) = Unit {0}
 MayFail other = IsFault other
