@@ -67,12 +67,7 @@ pub trait ServedByTurns: Drop {
 }
 
 /// Serves a link to its end, by turns of a new connection.
-pub fn serve_turns<
-    R: Wait,
-    L: Link,
-    C: Clock,
-    T: ServedByTurns,
->(
+pub fn serve_turns<R: Wait, L: Link, C: Clock, T: ServedByTurns>(
     rt: &R,
     mut conn: T,
     lock: &TableLock<RibCore>,
