@@ -28,4 +28,4 @@ learned_sound {G} lawful setup p q told h e = record { legal = h.legal; own = ap
 
 pub has_some : {X : Type 0} (o : Option X) (b : Bool) → b ≡ is_some o → b ≡ true → IsSome o
 has_some None b e t = absurd (cc (sym e ∙ t))
-has_some (Some x) b e t = tt
+has_some (Some x) b e t = sym e ∙ t
