@@ -39,3 +39,15 @@ def run(words: list[str], given: bytes = b"") -> tuple[float, bytes]:
     before = resource.getrusage(resource.RUSAGE_CHILDREN).ru_utime
     done = subprocess.run(words, input=given, stdout=subprocess.PIPE, check=True)
     return resource.getrusage(resource.RUSAGE_CHILDREN).ru_utime - before, done.stdout
+
+
+def compare(name: str, base: list[str], ours: list[str], rounds: int = 5) -> None:
+    """Runs two programs in turn, so many times, and prints the ratio of their user times and what they wrote."""
+    ratios = []
+    for _ in range(rounds):
+        first, wrote = run(base)
+        second, said = run(ours)
+        ratios.append(second / first)
+        output = "same output" if wrote == said else f"{wrote.decode().strip()} / {said.decode().strip()}"
+        print(f"{name}: {first:.3f} s, ours {second:.3f} s, ratio {second / first:.2f}, {output}")
+    print(f"{name}: median ratio {sorted(ratios)[len(ratios) // 2]:.2f}")

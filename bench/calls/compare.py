@@ -11,9 +11,8 @@ import sys
 
 HERE = pathlib.Path(__file__).resolve().parent
 sys.path.insert(0, str(HERE.parent))
-from proved import TOP, build, run  # noqa: E402
+from proved import TOP, build, compare  # noqa: E402
 
-ROUNDS = 5
 PAIRS = [("calls-1", "connection-1"), ("calls-100", "calls-1")]
 
 
@@ -28,13 +27,7 @@ def crates() -> dict[str, str]:
 def main() -> None:
     proved = build(HERE / "proved_calls.rt.in", crates())
     for word, base in PAIRS:
-        ratios = []
-        for _ in range(ROUNDS):
-            other, first = run([str(proved), base])
-            ours, second = run([str(proved), word])
-            ratios.append(ours / other)
-            print(f"{word}: {base} {other:.3f} s, {word} {ours:.3f} s, ratio {ours / other:.2f}; {first.decode().strip()}; {second.decode().strip()}")
-        print(f"{word} beside {base}: median ratio {sorted(ratios)[len(ratios) // 2]:.2f}")
+        compare(f"{word} beside {base}", [str(proved), base], [str(proved), word])
 
 
 main()

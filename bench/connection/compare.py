@@ -13,9 +13,8 @@ import tempfile
 
 HERE = pathlib.Path(__file__).resolve().parent
 sys.path.insert(0, str(HERE.parent))
-from proved import TOP, build, run  # noqa: E402
+from proved import TOP, build, compare  # noqa: E402
 
-ROUNDS = 5
 WORDS = ["read-1", "read-100", "write-1", "write-100"]
 
 
@@ -32,13 +31,7 @@ def main() -> None:
     subprocess.run(["rustc", "--edition", "2021", "-O", "-o", str(plain), str(HERE / "plain_connection.rs")], check=True)
     proved = build(HERE / "proved_connection.rt.in", crates())
     for word in WORDS:
-        ratios = []
-        for _ in range(ROUNDS):
-            base, first = run([str(plain), word])
-            ours, second = run([str(proved), word])
-            ratios.append(ours / base)
-            print(f"{word}: plain {base:.3f} s, proved {ours:.3f} s, ratio {ours / base:.2f}, same output: {first == second}")
-        print(f"{word}: median ratio {sorted(ratios)[len(ratios) // 2]:.2f}")
+        compare(word, [str(plain), word], [str(proved), word])
 
 
 main()
