@@ -23,9 +23,7 @@ use Rattle.h2_exchange.specs.Windows.{spent_on}
 use Rattle.schema_numbers.specs.Numbers.{Numbers}
 use Rattle.http_connection.specs.ConnectionTrace as conn
 use Rattle.http_connection.specs.ConnectionTrace.{ConnectionTrace, events_in}
-use Rattle.http_connection.proofs.Greeted.{frames, none_begun}
 use Rattle.grpc_stream.specs.CallTrace.{CallTrace, asked_on, fresh}
-use Rattle.grpc_stream.proofs.Idle as idle
 use Rattle.grpc_heads.specs.Written.{response_fields}
 use Rattle.call_hearing.specs.declared.pending.Pending.TheVariants.{Nothing}
 use Rattle.call_hearing.specs.Listening.{still_told, told_by}
@@ -50,7 +48,7 @@ body payload fits = record { flags = 0; stream = 0; payload = payload; stream_in
 pub record AreFrames (first : List Frame) : Type 0 where
   pub s : FrameBody
   pub u : FrameBody
-  pub are : first ≡ frames s u None
+  pub are : first ≡ Settings s ∷ WindowUpdate u ∷ []
 
 read_as : (text : List ℕ) (fs : List Frame) → flat_map frame_text fs ≡ text → Frames [] text fs []
 read_as text fs e = subst (λ (x : List ℕ). Frames [] x fs []) (append-nil (flat_map frame_text fs) ∙ e) (read_again [] [] fs (inl (omega arith)))
@@ -59,21 +57,21 @@ pub first_frames : (role : Role) (limits : H2Limits) (first : List Frame) → fl
 first_frames role limits first e =
     let s = body (own_settings role limits) (settings_fit role limits) in
     let u = body (to_be_bytes w32 (limits.window - 65535)) (update_fits (limits.window - 65535)) in
-    let text : flat_map frame_text (frames s u None) ≡ first_text role limits = refl in
+    let text : flat_map frame_text (Settings s ∷ WindowUpdate u ∷ []) ≡ first_text role limits = refl in
     record {
       s = s;
       u = u;
-      are = (unique [] (first_text role limits) first (frames s u None) (Waiting []) (Waiting []) (read_as (first_text role limits) first e) (read_as (first_text role limits) (frames s u None) text)).0;
+      are = (unique [] (first_text role limits) first (Settings s ∷ WindowUpdate u ∷ []) (Waiting []) (Waiting []) (read_as (first_text role limits) first e) (read_as (first_text role limits) (Settings s ∷ WindowUpdate u ∷ []) text)).0;
     }
 
 -- ---- what holds
 
-no_parts : (s u : FrameBody) (id : ℕ) (heads : List (List Field)) → parts id heads (frames s u None) ≡ []
+no_parts : (s u : FrameBody) (id : ℕ) (heads : List (List Field)) → parts id heads (Settings s ∷ WindowUpdate u ∷ []) ≡ []
 no_parts s u id heads =
     let closed = still_closed [] (Settings s) refl refl in
     parts_same (Settings s ∷ []) (WindowUpdate u) closed refl id heads refl ∙ parts_same [] (Settings s) refl refl id heads refl
 
-none_spent : (s u : FrameBody) (id : ℕ) → spent_on id (frames s u None) ≡ 0
+none_spent : (s u : FrameBody) (id : ℕ) → spent_on id (Settings s ∷ WindowUpdate u ∷ []) ≡ 0
 none_spent s u id =
     let closed = still_closed [] (Settings s) refl refl in
     spent_same (Settings s ∷ []) (WindowUpdate u) closed refl id ∙ spent_same [] (Settings s) refl refl id
@@ -84,9 +82,9 @@ none_begins (p ∷ ps) e h = cc
 
 module _ (limits : H2Limits) (s u : FrameBody) (n : Numbers) where
   abbrev at : Role → CallTrace
-  at role = bare (fresh (conn.begun role limits (frames s u None)) n)
+  at role = bare (fresh (conn.begun role limits (Settings s ∷ WindowUpdate u ∷ [])) n)
 
-  sent_are : (role : Role) → sent (at role).connection_trace.frames ≡ frames s u None
+  sent_are : (role : Role) → sent (at role).connection_trace.frames ≡ Settings s ∷ WindowUpdate u ∷ []
   sent_are role = refl
 
   unspoken : (role : Role) (id : ℕ) → parts_on (at role) id ≡ []
@@ -121,7 +119,7 @@ module _ (limits : H2Limits) (s u : FrameBody) (n : Numbers) where
 
   unkept : (role : Role) (id : ℕ) → IsUnkept role (at role) id
   unkept Server id = record { no_head = refl; no_bytes = refl; no_end = refl; untold = refl; nothing = refl; speaks = speaks Server id; ahead = λ h. unspoken Server id }
-  unkept Client id = record { unbegun = none_begun Client s u None id; no_event = refl; speaks = speaks Client id }
+  unkept Client id = record { unbegun = refl; no_event = refl; speaks = speaks Client id }
 
   told : (role : Role) → told_by role n [] ≡ [] ++ still_told role [] Nothing
   told Server = refl
@@ -135,7 +133,7 @@ module _ (limits : H2Limits) (s u : FrameBody) (n : Numbers) where
     once = λ id. refl;
     only = λ past behind f split rst. absurd (none_sent is_rst_stream (at role).connection_trace.frames past behind f split refl rst);
     unpadded = λ past behind b split. absurd (none_sent is_data (at role).connection_trace.frames past behind (Content b) split refl refl);
-    calls = λ is. sym (idle.none_begun Client s u None);
+    calls = λ is. refl;
   }
 
 pub fresh_holds : (role : Role) (limits : H2Limits) (first : List Frame) (n : Numbers) → flat_map frame_text first ≡ first_text role limits →

@@ -1,6 +1,5 @@
 pub mod Examples
 pub mod Laws
-pub mod PrefaceCallsTrace
 pub mod NextEvent
 pub mod Sends
 pub mod Shown

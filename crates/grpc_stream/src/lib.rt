@@ -19,8 +19,6 @@ mod calls;
 mod event;
 pub mod examples;
 pub mod laws;
-mod preface_only_calls;
 
 pub use calls::CallConnection;
 pub use event::CallEvent;
-pub use preface_only_calls::PrefaceOnlyCalls;

@@ -1,9 +1,3 @@
 pub mod Said
 pub mod Unheard
-pub mod Greeted
-pub mod Placed
-pub mod Sound
-pub mod Answered
-pub mod Opened
-pub mod Asked
 pub mod Gone

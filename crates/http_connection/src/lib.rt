@@ -2,11 +2,9 @@
 //!
 //! [`HttpConnection`] is the trait that a connection meets: `feed` it what came, ask `next_event` until it says
 //! `NeedMore`, send by `begin`, `send_head`, `send_piece`, `send_trailers` and `reset`, and pass on what `out` shows.
-//! [`PrefaceOnly`] is the smallest one. The contract is `specs/ConnectionTrace.antt`, what it was used for, and
-//! `specs/Answers.antt`, what it says next.
+//! The contract is `specs/ConnectionTrace.antt`, what it was used for, and `specs/Answers.antt`, what it says next.
 //!
 //! ```text
-//! let mut connection = PrefaceOnly::new(alloc, Role::Server, limits)?;
 //! connection.feed(piece)?;
 //! let H2Event::NeedMore = connection.next_event() else { /* it refused */ };
 //! write_all(connection.out());
@@ -16,9 +14,7 @@
 mod connection;
 mod draining;
 mod event;
-mod preface_only;
 
 pub use connection::HttpConnection;
 pub use draining::drain;
 pub use event::H2Event;
-pub use preface_only::PrefaceOnly;

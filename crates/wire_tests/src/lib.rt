@@ -6,8 +6,6 @@ mod call_heads;
 #[cfg(test)]
 mod call_trailers;
 #[cfg(test)]
-mod connection_prefaces;
-#[cfg(test)]
 mod fields;
 #[cfg(test)]
 mod frames;
@@ -17,7 +15,5 @@ mod header_blocks;
 mod huffman_strings;
 #[cfg(test)]
 mod messages;
-#[cfg(test)]
-mod preface_calls;
 #[cfg(test)]
 mod streams;
