@@ -102,7 +102,7 @@ module _ (limits : H2Limits) (s u : FrameBody) (n : Numbers) where
   spells Client id = record {
     bytes = [];
     is_last = false;
-    headed = λ h. let none : false ≡ true = sym (none_begun Client s u None id) ∙ h in absurd cc;
+    headed = λ h. let none : false ≡ true = h in absurd cc;
     request = subst (λ (ps : List Part). IsRequest (asked_on (at Client) id).head ps [] false) (sym (unspoken Client id)) (refl, refl);
     text = refl;
     closes = λ h. absurd cc;
