@@ -138,10 +138,6 @@ pub record Start (C R G L : Type 0) : Type 0 where
 abbrev pub start_at : {C R G L : Type 0} → PassView C R G → Links L → Start C R G L
 start_at root links = record { links = links; out = root.out; ended = root.ended; seen = root.seen }
 
--- the links of the items that a reactor holds, as they were given
-abbrev pub held : {L T : Type 0} → (T → L) → ReactorItems T → List L
-held origin items = map origin items.live ++ map origin items.over
-
 -- Between: these links are held, of those that were given and not taken back, and for each a pass is out. Each link that was retired
 -- since the start was served through a pass of its own, which was joined, in the same order; and the links that were given since are
 -- those that were retired and those that are held, in another order.
@@ -161,6 +157,20 @@ pub record IsServing {C R G L : Type 0} (served : L → L → PassView C R G →
   -- all that each pass had seen, the root has seen
   pub seen : IsPrefix start.seen root.seen
   pub each_seen : Each (λ d. IsPrefix d.pass.seen root.seen) done
+
+-- each item was made of the link at its place
+abbrev pub AreMadeOf : {T L : Type 0} → (T → L → Type 0) → List T → List L → Type 0
+AreMadeOf origin [] [] = Unit {0}
+AreMadeOf origin [] (link ∷ links) = ⊥
+AreMadeOf origin (made ∷ items) [] = ⊥
+AreMadeOf origin (made ∷ items) (link ∷ links) = origin made link × AreMadeOf origin items links
+
+-- Between: the links that are held are those that the items of a reactor were made of.
+pub record ServesItems {C R G L T : Type 0} (served : L → L → PassView C R G → Ended → Type 0) (origin : T → L → Type 0) (start : Start C R G L)
+    (root : PassView C R G) (links : Links L) (items : ReactorItems T) (short spent : Bool) : Type 0 where
+  pub held : List L
+  pub made : AreMadeOf origin (items.live ++ items.over) held
+  pub serves : IsServing served start root links held short spent
 
 -- All links are served: none is held, so as many were retired as were given.
 abbrev pub AreServed : {C R G L : Type 0} → (L → L → PassView C R G → Ended → Type 0) → Start C R G L → PassView C R G → Links L → Bool → Bool → Type 0

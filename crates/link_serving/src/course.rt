@@ -15,6 +15,19 @@ pub struct Tally {
     pub has_failed: bool,
 }
 
+impl Tally {
+    // The same, but for a call that was Spent.
+    pub(crate) fn spent(self) -> Tally
+        ensures { result ≡ record self { is_spent = true } }
+    {
+        Tally {
+            lacks_memory: self.lacks_memory,
+            is_spent: true,
+            has_failed: self.has_failed,
+        }
+    }
+}
+
 // What asking for a link came to.
 #[derive(Clone, Copy)]
 pub(crate) enum Came {

@@ -1,8 +1,8 @@
 //! The serving of links, in one thread.
 ghost use Rattle.std.specs.Prelude.{◌≡◌, ◌+◌, ◌<◌, ◌≤◌, ◌||◌, [], ℕ, Bool, true, false, length};
 ghost use Rattle.table_lock.specs.Passes.{IsPassOf};
-ghost use Rattle.link_serving.specs.Serving.{AreServed, HasAccepted, HasBegun, IsServing, IsTakenBack, Links, Start, ends, fails};
-ghost use Rattle.link_serving.specs.Serving.{held, links_of, refuses, start_at};
+ghost use Rattle.link_serving.specs.Serving.{AreServed, HasAccepted, HasBegun, IsTakenBack, Links, ServesItems, Start, ends, fails};
+ghost use Rattle.link_serving.specs.Serving.{links_of, refuses, start_at};
 
 use crate::course::{Came, Course, Tally};
 use crate::service::Service;
@@ -55,9 +55,9 @@ fn adopt<M: Machine, A: Acceptor, T: Turning + Drop, V: Service<M, A::Link, T>>(
     ensures same { (A.given_count acceptor.new ≡ A.given_count acceptor.old) × (A.faults acceptor.new ≡ A.faults acceptor.old)
         × (A.asked acceptor.new ≡ A.asked acceptor.old) }
     ensures serves { (start : Start M.Command M.Reply M.Setup A.Link) (before : Links A.Link) (short spent : Bool)
-        → IsServing V.served start root.old before (held V.origin turns.old) short spent
+        → ServesItems V.served V.origin start root.old before turns.old short spent
         → HasBegun link before (links_of A.given_count A.retired_count A.given A.retired acceptor.old)
-        → IsServing V.served start root.new (links_of A.given_count A.retired_count A.given A.retired acceptor.new) (held V.origin turns.new)
+        → ServesItems V.served V.origin start root.new (links_of A.given_count A.retired_count A.given A.retired acceptor.new) turns.new
         (short || refuses result) spent }
 {
     let pass = lock.split(root);
@@ -91,8 +91,8 @@ fn accept_one<M: Machine, A: Acceptor, T: Turning + Drop, V: Service<M, A::Link,
     ensures root { IsPassOf lock.now root.new × (root.new.number ≡ 0) }
     ensures took { A.retired_count acceptor.new + (length turns.new.live + length turns.new.over) ≤ A.given_count acceptor.new }
     ensures serves { (start : Start M.Command M.Reply M.Setup A.Link) (short spent : Bool)
-        → IsServing V.served start root.old (links_of A.given_count A.retired_count A.given A.retired acceptor.old) (held V.origin turns.old) short spent
-        → IsServing V.served start root.new (links_of A.given_count A.retired_count A.given A.retired acceptor.new) (held V.origin turns.new)
+        → ServesItems V.served V.origin start root.old (links_of A.given_count A.retired_count A.given A.retired acceptor.old) turns.old short spent
+        → ServesItems V.served V.origin start root.new (links_of A.given_count A.retired_count A.given A.retired acceptor.new) turns.new
         (short || refuses result) spent }
     ensures accepts { (faults : ℕ) (asked : ℕ × ℕ) (has_ended has_failed : Bool)
         → HasAccepted faults (A.faults acceptor.old) asked (A.asked acceptor.old) (A.given_count acceptor.old) has_ended has_failed
@@ -122,9 +122,9 @@ fn accept<M: Machine, A: Acceptor, T: Turning + Drop, V: Service<M, A::Link, T>>
     ensures root { IsPassOf lock.now root.new × (root.new.number ≡ 0) }
     ensures took { A.retired_count acceptor.new + (length turns.new.live + length turns.new.over) ≤ A.given_count acceptor.new }
     ensures serves { (start : Start M.Command M.Reply M.Setup A.Link)
-        → IsServing V.served start root.old (links_of A.given_count A.retired_count A.given A.retired acceptor.old) (held V.origin turns.old)
+        → ServesItems V.served V.origin start root.old (links_of A.given_count A.retired_count A.given A.retired acceptor.old) turns.old
         course.old.tally.lacks_memory course.old.tally.is_spent
-        → IsServing V.served start root.new (links_of A.given_count A.retired_count A.given A.retired acceptor.new) (held V.origin turns.new)
+        → ServesItems V.served V.origin start root.new (links_of A.given_count A.retired_count A.given A.retired acceptor.new) turns.new
         course.new.tally.lacks_memory course.new.tally.is_spent }
     ensures accepts { (faults : ℕ) (asked : ℕ × ℕ)
         → HasAccepted faults (A.faults acceptor.old) asked (A.asked acceptor.old) (A.given_count acceptor.old) course.old.has_ended
@@ -158,9 +158,9 @@ fn drain<M: Machine, A: Acceptor, T: Turning + Drop, V: Service<M, A::Link, T>>(
     ensures live { turns.new.live ≡ turns.old.live }
     ensures over { turns.new.over ≡ [] }
     ensures serves { (start : Start M.Command M.Reply M.Setup A.Link)
-        → IsServing V.served start root.old (links_of A.given_count A.retired_count A.given A.retired acceptor.old) (held V.origin turns.old)
+        → ServesItems V.served V.origin start root.old (links_of A.given_count A.retired_count A.given A.retired acceptor.old) turns.old
         course.old.tally.lacks_memory course.old.tally.is_spent
-        → IsServing V.served start root.new (links_of A.given_count A.retired_count A.given A.retired acceptor.new) (held V.origin turns.new)
+        → ServesItems V.served V.origin start root.new (links_of A.given_count A.retired_count A.given A.retired acceptor.new) turns.new
         course.new.tally.lacks_memory course.new.tally.is_spent }
     ensures same { (A.faults acceptor.new ≡ A.faults acceptor.old) × (A.asked acceptor.new ≡ A.asked acceptor.old)
         × (A.given_count acceptor.new ≡ A.given_count acceptor.old) }

@@ -1,7 +1,7 @@
 use Rattle.std.proofs.Common.{refl, ap}
 use Rattle.link_serving.specs.declared.course.Tally.{Tally}
-use Rattle.link_serving.specs.Serving.{held, links_of}
-use Rattle.link_serving.proofs.Serves.{accepted_still, told}
+use Rattle.link_serving.specs.Serving.{links_of}
+use Rattle.link_serving.proofs.Serves.{accepted_still, told_items}
 use Rattle.link_serving.proofs.serving.accept.Goals as goal
 
 pub returns-then-not-is_new-clause-accepts : goal.returns-then-not-is_new-clause-accepts
@@ -18,7 +18,7 @@ links-preserved g c =
       c.accept_one-came.ensures.root.1,
       c.accept_one-came.ensures.took,
       λ start s.
-          told g.V.Service.served start c.accept_one-came.new.root (links c.accept_one-came.new.acceptor) (held g.V.Service.origin c.accept_one-came.new.turns) _ _ _ _
+          told_items g.V.Service.served g.V.Service.origin start c.accept_one-came.new.root (links c.accept_one-came.new.acceptor) c.accept_one-came.new.turns _ _ _ _
           (ap (λ (t : Tally). t.lacks_memory) t) (ap (λ (t : Tally). t.is_spent) t)
           (c.accept_one-came.ensures.serves start _ _ (c.links.invariant.3 start s)),
       λ faults asked h.

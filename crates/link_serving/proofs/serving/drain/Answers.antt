@@ -1,7 +1,7 @@
-use Rattle.std.proofs.Common.{◌≡◌, ◌+◌, ◌∷◌, Some, length, ap, ◌∙◌, arith}
+use Rattle.std.proofs.Common.{◌≡◌, ◌+◌, length, ap, ◌∙◌, arith}
 use Rattle.link_serving.specs.declared.course.Tally.{Tally}
-use Rattle.link_serving.specs.Serving.{held, links_of}
-use Rattle.link_serving.proofs.Serves.{backs, drained_hold, moves, told}
+use Rattle.link_serving.specs.Serving.{links_of}
+use Rattle.link_serving.proofs.Serves.{backs_item, told_items}
 use Rattle.link_serving.proofs.serving.drain.Goals as goal
 
 pub items-preserved : goal.items-preserved
@@ -20,13 +20,11 @@ items-preserved g c =
       omega (arith, inv.2, one, same, back.took, back.gave),
       live ∙ inv.3,
       λ start s.
-          told g.V.Service.served start c.take_back.new.root (links c.take_back.new.acceptor) (held origin c.take_over.new.self) _ _ _ _
+          told_items g.V.Service.served origin start c.take_back.new.root (links c.take_back.new.acceptor) c.take_over.new.self _ _ _ _
           (ap (λ (t : Tally). t.lacks_memory) c.ends.ensures.tally) (ap (λ (t : Tally). t.is_spent) c.ends.ensures.tally)
-          (backs g.V.Service.served start c.items.root c.take_back.new.root (links c.items.acceptor) (links c.take_back.new.acceptor) (held origin c.take_over.new.self)
-          course.tally.lacks_memory course.tally.is_spent (origin c.in-Some.made) c.close-link.result.0 c.close-link.result.1 (Some c.close-link.result.2)
-          c.close-link.ensures.served back
-          (moves g.V.Service.served start c.items.root (links c.items.acceptor) (held origin c.items.turns) (origin c.in-Some.made ∷ held origin c.take_over.new.self)
-          course.tally.lacks_memory course.tally.is_spent (drained_hold origin c.items.turns c.take_over.new.self c.in-Some.made live some.2) (inv.4 start s))),
+          (backs_item g.V.Service.served origin start c.items.root c.take_back.new.root (links c.items.acceptor) (links c.take_back.new.acceptor) c.items.turns c.take_over.new.self
+          course.tally.lacks_memory course.tally.is_spent c.in-Some.made c.close-link.result.0 c.close-link.result.1 c.close-link.result.2
+          c.close-link.ensures.served back live some.2 (inv.4 start s)),
       c.take_back.ensures.same.0 ∙ inv.5,
       c.take_back.ensures.same.1 ∙ inv.6,
       back.gave ∙ inv.7,

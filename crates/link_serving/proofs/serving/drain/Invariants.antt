@@ -1,6 +1,6 @@
 use Rattle.std.proofs.Common.{◌≡◌, ◌+◌, ◌≤◌, length}
 use Rattle.table_lock.specs.Passes.{IsPassOf}
-use Rattle.link_serving.specs.Serving.{IsServing, Start, held, links_of}
+use Rattle.link_serving.specs.Serving.{ServesItems, Start, links_of}
 use Rattle.link_serving.proofs.serving.drain.Given as goal
 
 abbrev pub invariant-items : goal.invariant-items
@@ -9,10 +9,10 @@ invariant-items g l =
     × (g.A.Acceptor.retired_count l.acceptor + (length l.turns.live + length l.turns.over) ≤ g.A.Acceptor.given_count l.acceptor)
     × (l.turns.live ≡ l.fn.turns.live)
     × ((start : Start g.row.M-Command.Denot g.row.M-Reply.Denot g.row.M-Setup.Denot g.row.A-Link.Denot)
-    → IsServing g.V.Service.served start l.fn.root (links_of g.A.Acceptor.given_count g.A.Acceptor.retired_count g.A.Acceptor.given g.A.Acceptor.retired l.fn.acceptor)
-    (held g.V.Service.origin l.fn.turns) l.fn.course.tally.lacks_memory l.fn.course.tally.is_spent
-    → IsServing g.V.Service.served start l.root (links_of g.A.Acceptor.given_count g.A.Acceptor.retired_count g.A.Acceptor.given g.A.Acceptor.retired l.acceptor)
-    (held g.V.Service.origin l.turns) l.course.tally.lacks_memory l.course.tally.is_spent)
+    → ServesItems g.V.Service.served g.V.Service.origin start l.fn.root (links_of g.A.Acceptor.given_count g.A.Acceptor.retired_count g.A.Acceptor.given g.A.Acceptor.retired l.fn.acceptor)
+    l.fn.turns l.fn.course.tally.lacks_memory l.fn.course.tally.is_spent
+    → ServesItems g.V.Service.served g.V.Service.origin start l.root (links_of g.A.Acceptor.given_count g.A.Acceptor.retired_count g.A.Acceptor.given g.A.Acceptor.retired l.acceptor)
+    l.turns l.course.tally.lacks_memory l.course.tally.is_spent)
     × (g.A.Acceptor.faults l.acceptor ≡ g.A.Acceptor.faults l.fn.acceptor)
     × (g.A.Acceptor.asked l.acceptor ≡ g.A.Acceptor.asked l.fn.acceptor)
     × (g.A.Acceptor.given_count l.acceptor ≡ g.A.Acceptor.given_count l.fn.acceptor)

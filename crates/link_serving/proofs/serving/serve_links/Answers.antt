@@ -1,8 +1,8 @@
-use Rattle.std.proofs.Common.{◌≡◌, List, length, refl, sym, ap, ◌∙◌, subst, arith}
+use Rattle.std.proofs.Common.{◌≡◌, length, refl, sym, ap, ◌∙◌, arith}
 use Rattle.reactor.specs.Turns.{ReactorItems}
 use Rattle.link_serving.specs.declared.course.Tally.{Tally}
-use Rattle.link_serving.specs.Serving.{IsServing, held, links_of, start_at}
-use Rattle.link_serving.proofs.Serves.{accepted_none, accepted_still, begins, goes_round, moves, none_held, round_size, told}
+use Rattle.link_serving.specs.Serving.{links_of, start_at}
+use Rattle.link_serving.proofs.Serves.{accepted_none, accepted_still, begins_items, ends_items, round_size, rounds_items, told_items}
 use Rattle.link_serving.proofs.serving.serve_links.Goals as goal
 
 pub rounds-init : goal.rounds-init
@@ -18,8 +18,8 @@ rounds-init g c =
       c.requires.root.1,
       omega (arith, c.requires.took, ap (λ (r : ReactorItems g.row.T.Denot). length r.live) none, ap (λ (r : ReactorItems g.row.T.Denot). length r.over) none),
       ap (λ (r : ReactorItems g.row.T.Denot). r.over) none,
-      told g.V.Service.served (start_at root at) root at (held g.V.Service.origin c.new-turns.result) _ _ _ _ (ap (λ (t : Tally). t.lacks_memory) t) (ap (λ (t : Tally). t.is_spent) t)
-          (subst (λ (r : ReactorItems g.row.T.Denot). IsServing g.V.Service.served (start_at root at) root at (held g.V.Service.origin r) _ _) (sym none) (begins g.V.Service.served root at)),
+      told_items g.V.Service.served g.V.Service.origin (start_at root at) root at c.new-turns.result _ _ _ _ (ap (λ (t : Tally). t.lacks_memory) t)
+          (ap (λ (t : Tally). t.is_spent) t) (begins_items g.V.Service.served g.V.Service.origin root at c.new-turns.result none),
       accepted_still _ _ _ _ _ _ _ _ _ _ _ _ refl refl refl c.new-course.ensures.ended (ap (λ (t : Tally). t.has_failed) t)
           (accepted_none (g.A.Acceptor.faults c.args.acceptor.now) (g.A.Acceptor.given_count c.args.acceptor.now) (g.A.Acceptor.asked c.args.acceptor.now)),
     )
@@ -29,8 +29,7 @@ drain-requires-clause-took g c =
     omega (
       arith,
       c.accept.ensures.took,
-      round_size g.V.Service.origin c.accept.new.turns c.round-round.new.self
-          (goes_round g.V.Service.origin g.T.Turning.goes g.met.V.Service.keeps_origin c.accept.new.turns c.round-round.new.self _ _ c.round-round.ensures.turns),
+      round_size g.T.Turning.goes c.accept.new.turns c.round-round.new.self _ _ c.round-round.ensures.turns,
     )
 
 pub returns-then-live-eq0-clause-serves : goal.returns-then-live-eq0-clause-serves
@@ -39,15 +38,12 @@ returns-then-live-eq0-clause-serves g c =
     let origin = g.V.Service.origin in
     let start = start_at c.args.root.now (links c.args.acceptor.now) in
     let t = c.begins.ensures.tally in
-    let before = told g.V.Service.served start c.rounds.root (links c.rounds.acceptor) (held origin c.rounds.turns) _ _ _ _
+    let before = told_items g.V.Service.served origin start c.rounds.root (links c.rounds.acceptor) c.rounds.turns _ _ _ _
     (ap (λ (t : Tally). t.lacks_memory) t) (ap (λ (t : Tally). t.is_spent) t) c.rounds.invariant.6 in
-    let came = moves g.V.Service.served start c.accept.new.root (links c.accept.new.acceptor) (held origin c.accept.new.turns) (held origin c.round-round.new.self) _ _
-    (goes_round origin g.T.Turning.goes g.met.V.Service.keeps_origin c.accept.new.turns c.round-round.new.self _ _ c.round-round.ensures.turns)
-    (c.accept.ensures.serves start before) in
+    let came = rounds_items g.V.Service.served origin start g.T.Turning.goes g.met.V.Service.keeps_origin c.accept.new.root (links c.accept.new.acceptor) c.accept.new.turns
+    c.round-round.new.self _ _ _ _ c.round-round.ensures.turns (c.accept.ensures.serves start before) in
     let none : length c.drain.new.turns.live ≡ 0 = omega (arith, c.if-live-eq0.true, c.live.ensures) in
-    subst (λ (l : List g.row.A-Link.Denot). IsServing g.V.Service.served start c.drain.new.root (links c.drain.new.acceptor) l
-    c.drain.new.course.tally.lacks_memory c.drain.new.course.tally.is_spent)
-    (none_held origin c.drain.new.turns none c.drain.ensures.over) (c.drain.ensures.serves start came)
+    ends_items g.V.Service.served origin start c.drain.new.root (links c.drain.new.acceptor) c.drain.new.turns _ _ none c.drain.ensures.over (c.drain.ensures.serves start came)
 
 pub returns-then-live-eq0-clause-accepts : goal.returns-then-live-eq0-clause-accepts
 returns-then-live-eq0-clause-accepts g c =
@@ -64,11 +60,10 @@ rounds-preserved g c =
     let start = start_at c.args.root.now (links c.args.acceptor.now) in
     let t = c.begins.ensures.tally in
     let d = c.drain.ensures in
-    let before = told g.V.Service.served start c.rounds.root (links c.rounds.acceptor) (held origin c.rounds.turns) _ _ _ _
+    let before = told_items g.V.Service.served origin start c.rounds.root (links c.rounds.acceptor) c.rounds.turns _ _ _ _
     (ap (λ (t : Tally). t.lacks_memory) t) (ap (λ (t : Tally). t.is_spent) t) c.rounds.invariant.6 in
-    let came = moves g.V.Service.served start c.accept.new.root (links c.accept.new.acceptor) (held origin c.accept.new.turns) (held origin c.round-round.new.self) _ _
-    (goes_round origin g.T.Turning.goes g.met.V.Service.keeps_origin c.accept.new.turns c.round-round.new.self _ _ c.round-round.ensures.turns)
-    (c.accept.ensures.serves start before) in (
+    let came = rounds_items g.V.Service.served origin start g.T.Turning.goes g.met.V.Service.keeps_origin c.accept.new.root (links c.accept.new.acceptor) c.accept.new.turns
+    c.round-round.new.self _ _ _ _ c.round-round.ensures.turns (c.accept.ensures.serves start before) in (
       tt,
       tt,
       d.root.0,
