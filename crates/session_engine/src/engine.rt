@@ -1,4 +1,4 @@
-ghost use Rattle.std.specs.Prelude.{◌≡◌, ℕ, ◌<◌, [], ◌∷◌, List, Option, Bool, Ok, IfOk, IfErr, IsSome, None, Some, is_some, not, true, false};
+ghost use Rattle.std.specs.Prelude.{◌≡◌, ℕ, ◌<◌, [], ◌∷◌, List, Option, Bool, Ok, IfOk, OnOk, IfErr, IsSome, None, Some, is_some, length, not, true, false};
 ghost use Rattle.h2_exchange.specs.Calls.{Call, Begun, Request, Finished};
 ghost use Rattle.grpc_heads.specs.CallEnd.{CallEnd};
 ghost use Rattle.table_lock.specs.Passes.{IsPassOf, IsSound};
@@ -31,7 +31,7 @@ use table_model::{Command, Reply};
 #[derive(Drop)]
 pub struct SessionEngine {
     alloc: Global,
-    calls: OpenCalls,
+    pub(crate) calls: OpenCalls,
 }
 
 impl Model for SessionEngine {
@@ -184,8 +184,8 @@ impl SessionEngine {
         step
     }
 
-    /// A call began on a stream on which none was begun. A Modify call begins a session.
-    pub fn begin<R: Wait, M: Machine<Command = Command, Reply = Reply>>(
+    // A call began on a stream on which none is open. A Modify call begins a session.
+    fn begin_unbegun<R: Wait, M: Machine<Command = Command, Reply = Reply>>(
         &mut self,
         rt: &R,
         lock: &TableLock<M>,
@@ -206,6 +206,31 @@ impl SessionEngine {
             Method::Get => Ok(self.begin_single(stream, Method::Get)),
             Method::Flush => Ok(self.begin_single(stream, Method::Flush)),
         }
+    }
+
+    /// A call began on a stream on which none was begun. A Modify call begins a session. Where a call is open on the stream nothing is
+    /// done.
+    pub fn begin<R: Wait, M: Machine<Command = Command, Reply = Reply>>(
+        &mut self,
+        rt: &R,
+        lock: &TableLock<M>,
+        pass: &mut Pass<M>,
+        stream: u32,
+        method: Method,
+    ) -> Result<Step, EngineFault>
+        requires pass { IsPassOf lock.now pass.old }
+        requires sound { IsSound M.lawful lock.now.setup pass.old }
+        ensures done { call_on self.old stream ≡ None → IfOk result (λ step. (s : SettingView)
+            → DoesAction M.lawful lock.now.setup s self.old self.new pass.old pass.new stream IsNotBegun (Handles (Begun stream method)) step) }
+        ensures spent { call_on self.old stream ≡ None → IfErr result (λ _. (s : SettingView)
+            → IsSpentIn M.lawful lock.now.setup s pass.old pass.new stream IsNotBegun (Begun stream method ∷ [])) }
+        ensures nothing { IsSome (call_on self.old stream) → (self.new ≡ self.old) × (pass.new ≡ pass.old)
+            × (result ≡ Ok (record { answers = []; end = None; halted = false })) }
+    {
+        if self.calls.is_open(stream) {
+            return Ok(Step::new(self.alloc));
+        }
+        self.begin_unbegun(rt, lock, pass, stream, method)
     }
 
     /// A message came on a call. A Modify call does what it orders; a Get and a Flush keep it until their client ends its side.
@@ -254,6 +279,7 @@ impl SessionEngine {
             → DropsCall M.lawful lock.now.setup s self.old self.new pass.old pass.new stream call) }
         ensures spent { IfErr result (λ _. (s : SettingView) (call : Call Method CallEnd) → IsDropOf stream call
             → IsSpentIn M.lawful lock.now.setup s pass.old pass.new stream (Stands s (call_on self.old stream)) (call ∷ [])) }
+        ensures fewer { IsSome (call_on self.old stream) → OnOk result (length self.new < length self.old) }
     {
         if let Some((session, _)) = self.calls.session(stream) {
             leave(rt, lock, pass, session)?;

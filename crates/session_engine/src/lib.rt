@@ -18,6 +18,7 @@ mod engine;
 mod known_rows;
 mod laws;
 mod open_calls;
+mod queries;
 mod singles;
 mod step;
 

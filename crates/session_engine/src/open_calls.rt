@@ -1,4 +1,4 @@
-ghost use Rattle.std.specs.Prelude.{◌≡◌, ℕ, None, Some, OnOk, OnErr, IfSome, IfNone, IsSome, is_some, true};
+ghost use Rattle.std.specs.Prelude.{◌≡◌, ◌<◌, ℕ, None, Some, OnOk, OnErr, IfSome, IfNone, IsSome, is_some, length, true};
 ghost use Rattle.std.specs.Option.{option_map};
 ghost use Rattle.session_engine.specs.Responding.{GivesOf};
 ghost use Rattle.session_engine.specs.Stands.{AreSameElsewhere};
@@ -27,7 +27,7 @@ pub enum OpenCall {
 /// The calls of a connection that aren't over. Contracts see the call on each stream.
 #[derive(Drop)]
 pub(crate) struct OpenCalls {
-    map: BTreeMap<u32, OpenCall>,
+    pub(crate) map: BTreeMap<u32, OpenCall>,
 }
 
 impl Model for OpenCalls {
@@ -86,6 +86,13 @@ impl OpenCalls {
         OpenCalls {
             map: BTreeMap::new(alloc),
         }
+    }
+
+    // Whether a call is open on the stream.
+    pub(crate) fn is_open(&self, stream: u32) -> bool
+        ensures { result ≡ is_some (call_on self.now stream) }
+    {
+        self.map.contains_key(&stream)
     }
 
     // The session of a Modify call, and whether its client has ended its side.
@@ -213,6 +220,7 @@ impl OpenCalls {
     pub(crate) fn remove(&mut self, stream: u32)
         ensures removed { call_on self.new stream ≡ None }
         ensures others { AreSameElsewhere stream self.old self.new }
+        ensures fewer { IsSome (call_on self.old stream) → length self.new < length self.old }
     {
         let _ = self.map.remove(&stream);
     }

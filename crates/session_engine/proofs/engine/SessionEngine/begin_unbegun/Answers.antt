@@ -1,6 +1,6 @@
 use Rattle.grpc_heads.specs.declared.head.Method.TheVariants.{Get, Flush}
 use Rattle.session_engine.proofs.Opening.{opening}
-use Rattle.session_engine.proofs.engine.SessionEngine.begin.Goals as goal
+use Rattle.session_engine.proofs.engine.SessionEngine.begin_unbegun.Goals as goal
 
 pub returns-in-Modify-clause-done : goal.returns-in-Modify-clause-done
 returns-in-Modify-clause-done g c = rw c.in-Modify.is c.begin_modify.ensures.done
