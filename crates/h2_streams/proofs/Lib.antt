@@ -12,6 +12,8 @@ pub mod Quiet
 pub mod Credits
 pub mod Sound
 pub mod Places
+pub mod Rising
+pub mod Ordered
 pub mod Kept
 pub mod ReceivedFrames
 pub mod Counts

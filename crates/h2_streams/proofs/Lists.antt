@@ -15,7 +15,7 @@ self_eq k = eq-eqb k k refl
 pub eqb_is : (a b : ℕ) → (a == b) ≡ true → a ≡ b
 eqb_is a b e = grind (arith, nat_tests)
 
-eqb_isnt : (a b : ℕ) → (a == b) ≡ false → a ≡ b → ⊥
+pub eqb_isnt : (a b : ℕ) → (a == b) ≡ false → a ≡ b → ⊥
 eqb_isnt a b e f = grind (arith, nat_tests)
 
 -- what holds of a number and of every other one

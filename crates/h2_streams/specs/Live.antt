@@ -1,5 +1,5 @@
 -- The list of live streams.
-use Rattle.std.specs.Prelude.{◌≡◌, ℕ, ◌+◌, ◌<◌, ◌==◌, ◌&&◌, Bool, true, false, not, List, ◌++◌, length, filter, find, nat_lt, max, fold, [], ◌∷◌, Option, Some, None, if◌then◌else◌}
+use Rattle.std.specs.Prelude.{◌≡◌, ℕ, ◌+◌, ◌<◌, ◌≤◌, ◌==◌, ◌&&◌, Bool, true, false, not, List, ◌++◌, length, filter, find, nat_lt, max, fold, [], ◌∷◌, Option, Some, None, if◌then◌else◌}
 use Rattle.std.specs.List.{list_any, position_or_len}
 use Rattle.h2_exchange.specs.declared.role.Role.{Role}
 use Rattle.h2_exchange.specs.declared.role.Role.TheVariants.{Client, Server}
@@ -44,6 +44,17 @@ with_outcome true id (Alive stream) live = live ++ stream ∷ []
 with_outcome false id Over live = without id live
 with_outcome false id (Alive stream) live = replaced id stream live
 
+-- ---- the order of ids
+
+-- numbers rise, from one that is the least, and end below another
+abbrev pub Rises : {A : Type 0} → (A → ℕ) → ℕ → ℕ → List A → Type 0
+Rises f low high [] = low ≤ high
+Rises f low high (x ∷ xs) = (low ≤ f x) × Rises f (f x + 1) high xs
+
+-- ids rise, and end below this number
+abbrev pub IsRising : ℕ → List Stream → Type 0
+IsRising high live = Rises (λ (s : Stream). s.id) 0 high live
+
 -- ---- the place of a new stream
 
 abbrev pub is_headless : Option Stream → Bool
@@ -59,3 +70,7 @@ is_waiting (Some block) live = is_headless (find (is_stream block.0) live)
 abbrev pub HasPlace : Role → ℕ → ℕ → Option (ℕ × Bool) → List Stream → Type 0
 HasPlace Client streams places block live = Unit {0}
 HasPlace Server streams places block live = (streams < places) × (is_waiting block live ≡ false → length live < places)
+
+-- what a set keeps: the place for a new stream, and the order of ids, of which none is above the greatest
+abbrev pub IsKept : Role → ℕ → ℕ → Option (ℕ × Bool) → ℕ → List Stream → Type 0
+IsKept role streams places block highest live = HasPlace role streams places block live × IsRising (highest + 1) live

@@ -1,8 +1,7 @@
 //! The streams that are live, in the order of their ids.
-ghost use Rattle.std.specs.Prelude.{◌≡◌, ◌<◌, true, length, find, slice_get};
-ghost use Rattle.std.specs.List.{position};
+ghost use Rattle.std.specs.Prelude.{◌≡◌, ◌<◌, ℕ, true, slice_get};
 ghost use Rattle.std.specs.Vec.{vec_capacity, vec_len};
-ghost use Rattle.h2_streams.specs.Live.{is_stream, place_of, replaced, with_outcome, without};
+ghost use Rattle.h2_streams.specs.Live.{IsRising, place_of, replaced, with_outcome, without};
 ghost use Rattle.h2_streams.specs.Set.{new_stream};
 
 use h2_exchange::H2Limits;
@@ -45,27 +44,50 @@ impl Stream {
     }
 }
 
-/// The stream with this id.
-pub fn find(live: &[Stream], id: u32) -> Option<Stream>
-    ensures { result ≡ find (is_stream id) live.now }
-{
-    live.iter().copied().find(|stream| stream.id == id)
+/// A guess at where the stream with this id stands: a client's ids rise by two.
+fn guess(live: &[Stream], id: u32) -> usize {
+    match live.first() {
+        Some(first) => (id.saturating_sub(first.id) / 2) as usize,
+        None => 0,
+    }
 }
 
-fn position(live: &[Stream], id: u32) -> Option<usize>
-    ensures { result ≡ position (is_stream id) live.now }
+/// How many streams stand before the one with this id; all of them where it isn't live. What is left is halved by each
+/// comparison.
+fn place_by_halves(live: &[Stream], id: u32) -> usize
+    requires { (high : ℕ) × IsRising high live.now }
+    ensures { result ≡ place_of id live.now }
 {
-    live.iter().position(|stream| stream.id == id)
+    let mut low = 0;
+    let mut high = live.len();
+    'halves: while low < high {
+        let at = low + (high - low) / 2;
+        let stream = &live[at];
+        if stream.id == id {
+            return at;
+        }
+        if stream.id < id {
+            low = at + 1;
+        } else {
+            high = at;
+        }
+    }
+    live.len()
 }
 
 /// How many streams stand before the one with this id; all of them where it isn't live.
 pub fn place_of(live: &[Stream], id: u32) -> usize
+    requires { (high : ℕ) × IsRising high live.now }
     ensures { result ≡ place_of id live.now }
 {
-    match position(live, id) {
-        Some(place) => place,
-        None => live.len(),
+    let at = guess(live, id);
+    if at < live.len() {
+        let stream = &live[at];
+        if stream.id == id {
+            return at;
+        }
     }
+    place_by_halves(live, id)
 }
 
 /// The stream at this place.
@@ -98,12 +120,12 @@ pub fn remove(live: &mut Vec<Stream>, id: u32)
     live.retain(|stream| stream.id != id);
 }
 
-/// Puts a stream in the place of the one with this id.
-pub fn put(live: &mut Vec<Stream>, id: u32, new: Stream)
+/// Puts a stream in the place of the one with this id, which stands at this place.
+pub fn put(live: &mut Vec<Stream>, place: usize, id: u32, new: Stream)
+    requires { place ≡ place_of id live.old.items }
     ensures items { live.new.items ≡ replaced id new live.old.items }
     ensures capacity { vec_capacity live.new ≡ vec_capacity live.old }
 {
-    let place = place_of(live.as_slice(), id);
     replace(live.as_mut_slice(), place, id, new);
 }
 

@@ -9,6 +9,7 @@ ghost use Rattle.h2_exchange.specs.Blocks.{Block, completed};
 ghost use Rattle.h2_exchange.specs.Frames.{stream_of, is_headers, is_continuation, has_end_stream, increment_of};
 ghost use Rattle.h2_exchange.specs.Streams.{highest, of_client, live, is_begun, is_live, is_open};
 ghost use Rattle.h2_exchange.specs.Windows as windows;
+ghost use Rattle.h2_streams.specs.Live.{place_of};
 ghost use Rattle.h2_streams.specs.Set.{Set, fresh, at, is_open_in, begun, next_id, dropped, finished, room_of, spent, credited, credited_on, receive_in, owed_in, has_head_in};
 ghost use Rattle.h2_streams.specs.Stands.{StandsFor, owed_on};
 
@@ -45,7 +46,7 @@ pub struct StreamSet {
 impl Model for StreamSet {
     ghost use Rattle.std.specs.Prelude.{option_map};
     ghost use Rattle.std.specs.Vec.{vec_capacity};
-    ghost use Rattle.h2_streams.specs.Live.{HasPlace};
+    ghost use Rattle.h2_streams.specs.Live.{IsKept};
     ghost use Rattle.h2_streams.specs.Set.{Set};
 
     ghost Value = { Set };
@@ -62,7 +63,7 @@ impl Model for StreamSet {
       receive = s.receive;
     } };
 
-    ghost invariant = { λ s. HasPlace s.role s.limits.streams (vec_capacity s.live) (option_map (λ b. (b.stream, b.last)) s.block) s.live.items };
+    ghost invariant = { λ s. IsKept s.role s.limits.streams (vec_capacity s.live) (option_map (λ b. (b.stream, b.last)) s.block) s.highest s.live.items };
 }
 
 impl StreamSet {
@@ -100,10 +101,32 @@ impl StreamSet {
         self.has(stream)
     }
 
+    /// The place of a stream among those that are live.
+    fn place_of(&self, id: u32) -> usize
+        ensures { result ≡ place_of id self.now.live }
+    {
+        live::place_of(self.live.as_slice(), id)
+    }
+
+    /// The live stream with this id, which stands at this place.
+    fn met(&self, id: u32, place: usize) -> Option<Stream>
+        requires { place ≡ place_of id self.now.live }
+        ensures { result ≡ at id self.now }
+    {
+        live::stream_at(self.live.as_slice(), place)
+    }
+
+    /// The live stream with this id.
+    fn find(&self, id: u32) -> Option<Stream>
+        ensures { result ≡ at id self.now }
+    {
+        self.met(id, self.place_of(id))
+    }
+
     fn has(&self, stream: u32) -> bool
         ensures { result ≡ is_some (at stream self.now) }
     {
-        live::find(self.live.as_slice(), stream).is_some()
+        self.find(stream).is_some()
     }
 
     /// Whether the stream is live and this side hasn't ended it.
@@ -117,7 +140,7 @@ impl StreamSet {
     fn has_open(&self, stream: u32) -> bool
         ensures { result ≡ is_open_in (at stream self.now) }
     {
-        match live::find(self.live.as_slice(), stream) {
+        match self.find(stream) {
             Some(found) => !found.is_closed_local,
             None => false,
         }
@@ -141,7 +164,7 @@ impl StreamSet {
     pub fn has_head(&self, stream: u32) -> bool
         ensures { result ≡ has_head_in (at stream self.now) }
     {
-        match live::find(self.live.as_slice(), stream) {
+        match self.find(stream) {
             Some(found) => found.has_head,
             None => false,
         }
@@ -174,7 +197,7 @@ impl StreamSet {
     fn owed_on(&self, stream: u32) -> u32
         ensures { result ≡ owed_in self.now.limits (at stream self.now) }
     {
-        match live::find(self.live.as_slice(), stream) {
+        match self.find(stream) {
             Some(found) => self.limits.window.saturating_sub(found.receive),
             None => 0,
         }
@@ -298,7 +321,8 @@ impl StreamSet {
         requires { is_open_in (at stream self.old) ≡ true }
         ensures { self.new ≡ finished stream self.old }
     {
-        let Some(found) = live::find(self.live.as_slice(), stream) else {
+        let place = self.place_of(stream);
+        let Some(found) = self.met(stream, place) else {
             return;
         };
         if found.is_closed_remote {
@@ -308,7 +332,7 @@ impl StreamSet {
                 is_closed_local: true,
                 ..found
             };
-            live::put(&mut self.live, stream, ended);
+            live::put(&mut self.live, place, stream, ended);
         }
     }
 
@@ -339,7 +363,7 @@ impl StreamSet {
     fn room(&self, stream: u32) -> u32
         ensures { result ≡ room_of self.now (at stream self.now) }
     {
-        let Some(found) = live::find(self.live.as_slice(), stream) else {
+        let Some(found) = self.find(stream) else {
             return 0;
         };
         if found.is_closed_local {
@@ -365,14 +389,15 @@ impl StreamSet {
         requires { n ≤ room_of self.old (at stream self.old) }
         ensures { self.new ≡ spent stream n self.old }
     {
-        let Some(found) = live::find(self.live.as_slice(), stream) else {
+        let place = self.place_of(stream);
+        let Some(found) = self.met(stream, place) else {
             return;
         };
         let less = Stream {
             room: found.room.saturating_sub(n),
             ..found
         };
-        live::put(&mut self.live, stream, less);
+        live::put(&mut self.live, place, stream, less);
         self.send = self.send.saturating_sub(n);
     }
 
@@ -407,13 +432,14 @@ impl StreamSet {
         requires { receive_in (at stream self.old) + n < 2 ^ 32 }
         ensures { self.new ≡ credited_on stream n self.old }
     {
-        let Some(found) = live::find(self.live.as_slice(), stream) else {
+        let place = self.place_of(stream);
+        let Some(found) = self.met(stream, place) else {
             return;
         };
         let more = Stream {
             receive: found.receive + n,
             ..found
         };
-        live::put(&mut self.live, stream, more);
+        live::put(&mut self.live, place, stream, more);
     }
 }

@@ -335,21 +335,6 @@ impl StreamSet {
         is_alive(outcome)
     }
 
-    /// The place of a stream among those that are live.
-    fn place_of(&self, id: u32) -> usize
-        ensures { result ≡ place_of id self.now.live }
-    {
-        live::place_of(self.live.as_slice(), id)
-    }
-
-    /// The live stream with this id, which stands at this place.
-    fn met(&self, id: u32, place: usize) -> Option<Stream>
-        requires { place ≡ place_of id self.now.live }
-        ensures { result ≡ at id self.now }
-    {
-        live::stream_at(self.live.as_slice(), place)
-    }
-
     #[tactic(auto, using(crate::proofs::Sound::four))]
     fn hear(&mut self, frame: &Frame) -> (Result<(), StreamFault>, SeenStream)
         ensures answer { result.0 ≡ hear.answer_by (say.stream_of frame.now) (frame_error_in self.old frame.now) (hear.fault_in self.old frame.now) }
