@@ -40,6 +40,7 @@ pub mod Reading
 pub mod Received
 pub mod Releasing
 pub mod ResetHeard
+pub mod Requests
 pub mod Resetting
 pub mod Saying
 pub mod Sent

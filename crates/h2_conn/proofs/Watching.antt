@@ -9,43 +9,24 @@ use Rattle.h2_exchange.specs.Stops.{request_bytes}
 use Rattle.h2_exchange.specs.Streams.{is_begun, is_live}
 use Rattle.h2_streams.proofs.Lists.{self_eq, isnt, by_number}
 use Rattle.h2_conn.specs.declared.asked.Asked.{Asked}
-use Rattle.h2_conn.specs.Watching.{Watch, IsWatched, IsAsked, asked_on, asked_with, taken_on, ended_if, without}
-use Rattle.h2_conn.proofs.NextMessage.{asked_apart}
+use Rattle.h2_conn.specs.Watching.{Watch, IsWatched, IsAsked, asked_on, asked_with, found_in, put_by, taken_on, ended_if}
+use Rattle.h2_conn.proofs.Requests.{placed_here, placed_there, replaced_here, replaced_there}
 use Rattle.h2_conn.proofs.Watched.{cuts, ends}
 use Rattle.h2_conn.proofs.Wholes.{asked_more}
 
-last_by : (p : Asked → Bool) (x y : Asked) (b : Bool) (part rest : Option Asked) → (if b then Some x else rest) ≡ None → (rest ≡ None → part ≡ Some y) → (if b then Some x else part) ≡ Some y
-last_by p x y true part rest g h = absurd cc
-last_by p x y false part rest g h = h g
-
-find_last : (p : Asked → Bool) (xs : List Asked) (y : Asked) → find p xs ≡ None → p y ≡ true → find p (xs ++ y ∷ []) ≡ Some y
-find_last p [] y e f = ap (λ (b : Bool). if b then Some y else None) f
-find_last p (x ∷ xs) y e f = last_by p x y (p x) (find p (xs ++ y ∷ [])) (find p xs) e (λ g. find_last p xs y g f)
-
-find_skip : (p : Asked → Bool) (xs : List Asked) (y : Asked) → p y ≡ false → find p (xs ++ y ∷ []) ≡ find p xs
-find_skip p [] y f = ap (λ (b : Bool). if b then Some y else None) f
-find_skip p (x ∷ xs) y f = ap (λ (o : Option Asked). if p x then Some x else o) (find_skip p xs y f)
-
-none_by : (k : ℕ) (x : Asked) (rest : List Asked) (b : Bool) → (x.id == k) ≡ b → find (λ (a : Asked). a.id == k) rest ≡ None → find (λ (a : Asked). a.id == k) (if not b then x ∷ rest else rest) ≡ None
-none_by k x rest true e h = h
-none_by k x rest false e h = ap (λ (b : Bool). if b then Some x else find (λ (a : Asked). a.id == k) rest) e ∙ h
-
-none_without : (k : ℕ) (xs : List Asked) → find (λ (a : Asked). a.id == k) (without k xs) ≡ None
-none_without k [] = refl
-none_without k (x ∷ xs) = none_by k x (without k xs) (x.id == k) refl (none_without k xs)
-
-named : (k : ℕ) (m : List ℕ) (o : Option Asked) → (asked_with k m o).id ≡ k
-named k m None = refl
-named k m (Some a) = refl
-
 here : (k : ℕ) (m : List ℕ) (w : Watch) → asked_on k (taken_on k m w) ≡ Some (asked_with k m (asked_on k w))
-here k m w = find_last (λ (a : Asked). a.id == k) (without k w.asked) (asked_with k m (asked_on k w)) (none_without k w.asked) (ap (λ (n : ℕ). n == k) (named k m (asked_on k w)) ∙ self_eq k)
+here k m w = by (asked_on k w) refl
+  where
+    by : (o : Option Asked) → asked_on k w ≡ o → found_in k (put_by o k (asked_with k m o) w.asked) ≡ Some (asked_with k m o)
+    by None e = placed_here k (asked_with k m None) w.asked refl e
+    by (Some a) e = replaced_here k (asked_with k m (Some a)) a w.asked refl e
 
 there : (k id : ℕ) (m : List ℕ) (w : Watch) → (id ≡ k → ⊥) → asked_on id (taken_on k m w) ≡ asked_on id w
-there k id m w other =
-    find_skip (λ (a : Asked). a.id == id) (without k w.asked) (asked_with k m (asked_on k w))
-    (ap (λ (n : ℕ). n == id) (named k m (asked_on k w)) ∙ isnt id k (λ e. other (sym e)))
-    ∙ asked_apart k id w other
+there k id m w other = by (asked_on k w)
+  where
+    by : (o : Option Asked) → found_in id (put_by o k (asked_with k m o) w.asked) ≡ asked_on id w
+    by None = placed_there k id (asked_with k m None) w.asked refl other
+    by (Some a) = replaced_there k id (asked_with k m (Some a)) w.asked refl other
 
 same_asked : (e : Bool) (id : ℕ) (w : Watch) → asked_on id (ended_if e w) ≡ asked_on id w
 same_asked true id w = refl

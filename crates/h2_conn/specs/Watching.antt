@@ -1,5 +1,5 @@
 -- How many more requests may be cut off, and how far the first message of each request is.
-use Rattle.std.specs.Prelude.{◌≡◌, ℕ, ◌+◌, ◌-◌, ◌*◌, ◌==◌, ◌&&◌, ◌||◌, not, nat_le, min, take, length, fold, find, filter, Bool, true, false, List, [], ◌∷◌, ◌++◌, Option, Some, None, if◌then◌else◌}
+use Rattle.std.specs.Prelude.{◌≡◌, ℕ, ◌+◌, ◌-◌, ◌*◌, ◌==◌, ◌&&◌, ◌||◌, not, nat_le, nat_lt, min, take, length, fold, find, filter, Bool, true, false, List, [], ◌∷◌, Option, Some, None, if◌then◌else◌}
 use Rattle.h2_exchange.specs.declared.limits.H2Limits.{H2Limits}
 use Rattle.h2_exchange.specs.declared.limits.CalmCause.TheVariants.{Resets}
 use Rattle.h2_exchange.specs.declared.role.Role.{Role}
@@ -15,7 +15,7 @@ pub record Watch : Type 0 where
   pub left : ℕ
   -- more were cut off
   pub is_passed : Bool
-  -- the requests of live streams of which bytes were taken
+  -- the requests of live streams of which bytes were taken, by rising ids
   pub asked : List Asked
 
 -- the first five bytes as a number
@@ -36,8 +36,11 @@ abbrev pub is_whole : Option Asked → Bool
 is_whole None = false
 is_whole (Some a) = nat_le 5 a.count && nat_le a.word 4194304 && nat_le (5 + a.word) a.count
 
+abbrev pub found_in : ℕ → List Asked → Option Asked
+found_in id asked = find (λ a. a.id == id) asked
+
 abbrev pub asked_on : ℕ → Watch → Option Asked
-asked_on id w = find (λ a. a.id == id) w.asked
+asked_on id w = found_in id w.asked
 
 abbrev pub stop_by : Bool → Option Stop
 stop_by false = None
@@ -77,9 +80,26 @@ abbrev pub asked_with : ℕ → List ℕ → Option Asked → Asked
 asked_with id bytes None = record { id = id; word = word_with 0 0 bytes; count = min (0 + length bytes) 4194309 }
 asked_with id bytes (Some a) = record { id = id; word = word_with a.word a.count bytes; count = min (a.count + length bytes) 4194309 }
 
+-- a new request goes before the first of a greater id
+abbrev pub placed : ℕ → Asked → List Asked → List Asked
+placed id a [] = a ∷ []
+placed id a (x ∷ asked) = if nat_lt id x.id then a ∷ x ∷ asked else x ∷ placed id a asked
+
+abbrev pub replaced : ℕ → Asked → List Asked → List Asked
+replaced id a [] = []
+replaced id a (x ∷ asked) = if x.id == id then a ∷ asked else x ∷ replaced id a asked
+
+-- a request as it is now, where this one was found before
+abbrev pub put_by : Option Asked → ℕ → Asked → List Asked → List Asked
+put_by None id a asked = placed id a asked
+put_by (Some old) id a asked = replaced id a asked
+
+abbrev pub asked_behind : ℕ → List ℕ → List Asked → List Asked
+asked_behind id bytes asked = put_by (found_in id asked) id (asked_with id bytes (found_in id asked)) asked
+
 -- bytes stand on a request
 abbrev pub taken_on : ℕ → List ℕ → Watch → Watch
-taken_on id bytes w = record w { asked = without id w.asked ++ asked_with id bytes (asked_on id w) ∷ [] }
+taken_on id bytes w = record w { asked = asked_behind id bytes w.asked }
 
 -- the client ends a call
 abbrev pub ended_if : Bool → Watch → Watch

@@ -1,7 +1,9 @@
 //! Requests that are cut off before their first message is whole, and how many more may be.
-ghost use Rattle.std.specs.Prelude.{◌≡◌, ◌≤◌, ◌<◌, ◌+◌, nat_lt, min, true, false, [], OnOk, OnErr};
+ghost use Rattle.std.specs.Prelude.{◌≡◌, ◌≤◌, ◌<◌, ◌+◌, ◌==◌, nat_lt, min, slice_get, true, false, [], OnOk, OnErr};
+ghost use Rattle.std.specs.List.{position, position_or_len};
 ghost use Rattle.std.specs.Vec.{vec_capacity, vec_len};
-ghost use Rattle.h2_conn.specs.Watching.{asked_on, is_whole, cut_on, cut_if, over_on, without, taken_on, ended_if, asked_with, word_with};
+ghost use Rattle.h2_streams.specs.Live.{Rises};
+ghost use Rattle.h2_conn.specs.Watching.{asked_on, asked_behind, is_whole, cut_on, cut_if, over_on, without, placed, replaced, taken_on, ended_if, asked_with, word_with};
 
 use crate::asked::Asked;
 use std::alloc::{AllocError, Global};
@@ -51,6 +53,123 @@ fn remove(asked: &mut Vec<Asked>, id: u32)
     asked.retain(|asked| asked.id != id);
 }
 
+/// A guess at where the request of a stream stands: a client's ids rise by two.
+fn guess(asked: &[Asked], id: u32) -> usize {
+    match asked.first() {
+        Some(first) => (id.saturating_sub(first.id) / 2) as usize,
+        None => 0,
+    }
+}
+
+fn place_by_halves(asked: &[Asked], id: u32) -> usize
+    requires { Rises (λ a. a.id) 0 4294967296 asked.now }
+    ensures { result ≡ position_or_len (λ a. a.id == id) asked.now }
+{
+    let mut low = 0;
+    let mut high = asked.len();
+    'halves: while low < high {
+        let at = low + (high - low) / 2;
+        let request = &asked[at];
+        if request.id == id {
+            return at;
+        }
+        if request.id < id {
+            low = at + 1;
+        } else {
+            high = at;
+        }
+    }
+    asked.len()
+}
+
+/// Where the request of a stream stands; how many there are where there is none.
+fn place_of(asked: &[Asked], id: u32) -> usize
+    requires { Rises (λ a. a.id) 0 4294967296 asked.now }
+    ensures { result ≡ position_or_len (λ a. a.id == id) asked.now }
+{
+    let at = guess(asked, id);
+    if at < asked.len() {
+        let request = &asked[at];
+        if request.id == id {
+            return at;
+        }
+    }
+    place_by_halves(asked, id)
+}
+
+/// The request that stands at this place.
+fn request_at(asked: &[Asked], place: usize) -> Option<Asked>
+    ensures { result ≡ slice_get asked.now place }
+{
+    if place < asked.len() {
+        let request = &asked[place];
+        Some(*request)
+    } else {
+        None
+    }
+}
+
+fn first_above(asked: &[Asked], id: u32) -> Option<usize>
+    ensures { result ≡ position (λ a. nat_lt id a.id) asked.now }
+{
+    asked.iter().position(|asked| id < asked.id)
+}
+
+/// Where a new request goes.
+fn gap(asked: &[Asked], id: u32) -> usize
+    ensures { result ≡ position_or_len (λ a. nat_lt id a.id) asked.now }
+{
+    match first_above(asked, id) {
+        Some(place) => place,
+        None => asked.len(),
+    }
+}
+
+/// Adds a new request. Without memory nothing changes.
+fn insert(asked: &mut Vec<Asked>, id: u32, new: Asked) -> Result<(), AllocError>
+    ensures ok { OnOk result (asked.new.items ≡ placed id new asked.old.items) }
+    ensures err { OnErr result (asked.new.items ≡ asked.old.items) }
+{
+    let place = gap(asked.as_slice(), id);
+    asked.insert(place, new)?;
+    Ok(())
+}
+
+/// Puts a request in the place of the one with this id, which stands at this place.
+fn replace(asked: &mut [Asked], place: usize, id: u32, new: Asked)
+    requires { place ≡ position_or_len (λ a. a.id == id) asked.old }
+    ensures { asked.new ≡ replaced id new asked.old }
+{
+    if place < asked.len() {
+        asked[place] = new;
+    }
+}
+
+fn replace_at(asked: &mut Vec<Asked>, place: usize, id: u32, new: Asked)
+    requires { place ≡ position_or_len (λ a. a.id == id) asked.old.items }
+    ensures { asked.new.items ≡ replaced id new asked.old.items }
+{
+    replace(asked.as_mut_slice(), place, id, new);
+}
+
+/// Takes bytes that stand on the request at this place, or on a new one. Without memory nothing changes.
+fn put(asked: &mut Vec<Asked>, place: usize, id: u32, bytes: &[u8]) -> Result<(), AllocError>
+    requires { place ≡ position_or_len (λ a. a.id == id) asked.old.items }
+    ensures ok { OnOk result (asked.new.items ≡ asked_behind id bytes.now asked.old.items) }
+    ensures err { OnErr result (asked.new.items ≡ asked.old.items) }
+    ensures rises { Rises (λ a. a.id) 0 4294967296 asked.old.items → Rises (λ a. a.id) 0 4294967296 asked.new.items }
+{
+    let old = request_at(asked.as_slice(), place);
+    let next = next_of(id, old, bytes);
+    match old {
+        Some(_) => {
+            replace_at(asked, place, id, next);
+            Ok(())
+        }
+        None => insert(asked, id, next),
+    }
+}
+
 /// The requests of live streams, and how many more may be cut off.
 #[derive(Debug, Drop)]
 pub struct Watch {
@@ -60,11 +179,14 @@ pub struct Watch {
 }
 
 impl Model for Watch {
+    ghost use Rattle.h2_streams.specs.Live.{Rises};
     ghost use Rattle.h2_conn.specs.Watching.{Watch};
 
     ghost Value = { Watch };
 
     ghost view = { λ w. record { left = w.left; is_passed = w.is_passed; asked = w.asked.items } };
+
+    ghost invariant = { λ w. Rises (λ a. a.id) 0 4294967296 w.asked.items };
 }
 
 impl Watch {
@@ -133,11 +255,8 @@ impl Watch {
         ensures ok { OnOk result (self.new ≡ taken_on id bytes.now self.old) }
         ensures err { OnErr result (self.new ≡ self.old) }
     {
-        let next = next_of(id, self.find(id), bytes);
-        self.asked.reserve(1)?;
-        remove(&mut self.asked, id);
-        self.asked.push_reserved(next);
-        Ok(())
+        let place = place_of(self.asked.as_slice(), id);
+        put(&mut self.asked, place, id, bytes)
     }
 
     /// Takes that the client ends a call. Past 2^64 - 1 ends nothing changes.
