@@ -43,10 +43,10 @@ fn good() -> Status
 }
 
 // Answers each message with one of two bytes, and ends each call that its client ended.
-fn serve(
+fn serve<K: CallConnection>(
     alloc: Global,
     n: &Numbering,
-    calls: &mut Side,
+    calls: &mut K,
     told: &mut Told,
 ) -> Result<bool, AllocError> {
     match calls.next(n) {
@@ -86,17 +86,17 @@ fn note(event: &CallEvent, told: &mut Told) -> bool {
     true
 }
 
-fn hear(n: &Numbering, calls: &mut Side, told: &mut Told) -> bool {
+fn hear<K: CallConnection>(n: &Numbering, calls: &mut K, told: &mut Told) -> bool {
     let event = calls.next(n);
     note(&event, told)
 }
 
 // One byte goes each way, if one waits, and what it tells is done.
-fn step(
+fn step<K: CallConnection>(
     alloc: Global,
     n: &Numbering,
-    client: &mut Side,
-    server: &mut Side,
+    client: &mut K,
+    server: &mut K,
     at: &mut (Told, Told),
 ) -> Result<bool, AllocError> {
     client.pump()?;
@@ -138,7 +138,12 @@ fn begins<K: CallConnection>(client: &mut K) -> (u32, u32, u32)
 }
 
 // Sends a message on a call.
-fn sends(alloc: Global, client: &mut Side, stream: u32, text: &[u8]) -> Result<bool, AllocError>
+fn sends<K: CallConnection>(
+    alloc: Global,
+    client: &mut K,
+    stream: u32,
+    text: &[u8],
+) -> Result<bool, AllocError>
     requires { length text.now ≤ 5 }
 {
     let message = Vec::from_slice(alloc, text)?;
@@ -146,7 +151,7 @@ fn sends(alloc: Global, client: &mut Side, stream: u32, text: &[u8]) -> Result<b
 }
 
 // Asks twice on the first call and once on the others, and ends the client's sides.
-fn asks(alloc: Global, client: &mut Side) -> Result<bool, AllocError> {
+fn asks<K: CallConnection>(alloc: Global, client: &mut K) -> Result<bool, AllocError> {
     let mut is_right = sends(alloc, client, 1, b"one")?;
     is_right &= sends(alloc, client, 1, b"")?;
     is_right &= sends(alloc, client, 3, b"two")?;
@@ -170,16 +175,17 @@ fn client(alloc: Global, n: &Numbering) -> Result<Option<Side>, AllocError> {
     }
 }
 
-fn are_carried(alloc: Global) -> Result<bool, AllocError> {
-    let n = default_numbering(alloc)?;
-    let Some(mut client) = client(alloc, &n)? else {
-        return Ok(false);
-    };
-    let mut server = side(alloc, Role::Server)?;
+// Carries bytes until none waits, and says whether each side was told all.
+fn carries<K: CallConnection>(
+    alloc: Global,
+    n: &Numbering,
+    client: &mut K,
+    server: &mut K,
+) -> Result<bool, AllocError> {
     let mut at = (NOTHING, NOTHING);
-    let is_right = asks(alloc, &mut client)?;
+    let is_right = asks(alloc, client)?;
     for _ in 0..2_000 {
-        if !step(alloc, &n, &mut client, &mut server, &mut at)? {
+        if !step(alloc, n, client, server, &mut at)? {
             break;
         }
     }
@@ -195,6 +201,15 @@ fn are_carried(alloc: Global) -> Result<bool, AllocError> {
         ..NOTHING
     };
     Ok(is_right && at == (heard, served))
+}
+
+fn are_carried(alloc: Global) -> Result<bool, AllocError> {
+    let n = default_numbering(alloc)?;
+    let Some(mut client) = client(alloc, &n)? else {
+        return Ok(false);
+    };
+    let mut server = side(alloc, Role::Server)?;
+    carries(alloc, &n, &mut client, &mut server)
 }
 
 #[test]

@@ -1,5 +1,5 @@
 //! What a server sends first, and the limits that a client sets and is set.
-use crate::sides::{Side, sends_all, side, tells};
+use crate::sides::{sends_all, side, tells};
 use bytes::Bytes;
 use grpc_heads::{Status, Text, short_trailers_fit};
 use grpc_stream::{CallConnection, CallEvent};
@@ -30,7 +30,11 @@ const WINDOW_UPDATE: &[u8] = b"\x00\x00\x04\x08\x00\x00\x00\x00\x01\x00\x00\x00\
 const DATA_SENT: &[u8] = b"\x00\x00\x07\x00\x00\x00\x00\x00\x01\x00\x00\x00\x00\x02ok";
 
 // A server answers a call of a client whose window is 0.
-fn answers(alloc: Global, n: &Numbering, server: &mut Side) -> Result<bool, AllocError> {
+fn answers<K: CallConnection>(
+    alloc: Global,
+    n: &Numbering,
+    server: &mut K,
+) -> Result<bool, AllocError> {
     let is_begun = matches!(tells(server, n, FROM_CLIENT)?, CallEvent::Begun(1, _));
     let is_taken = server.answer(1, Vec::from_slice(alloc, b"ok")?).is_ok();
     server.pump()?;
@@ -38,7 +42,7 @@ fn answers(alloc: Global, n: &Numbering, server: &mut Side) -> Result<bool, Allo
 }
 
 // The end of a call that went well.
-fn ends(n: &Numbering, server: &mut Side) -> Result<bool, AllocError> {
+fn ends<K: CallConnection>(n: &Numbering, server: &mut K) -> Result<bool, AllocError> {
     short_trailers_fit();
     let status = Status {
         code: 0,
@@ -50,17 +54,25 @@ fn ends(n: &Numbering, server: &mut Side) -> Result<bool, AllocError> {
     Ok(is_taken)
 }
 
+fn holds<K: CallConnection>(
+    alloc: Global,
+    n: &Numbering,
+    server: &mut K,
+) -> Result<bool, AllocError> {
+    let mut is_right = sends_all(server, SERVER_FIRST);
+    is_right &= answers(alloc, n, server)?;
+    is_right &= sends_all(server, ANSWERED);
+    is_right &= matches!(tells(server, n, WINDOW_UPDATE)?, CallEvent::NeedMore);
+    server.pump()?;
+    is_right &= server.waiting() == 0 && sends_all(server, DATA_SENT);
+    is_right &= ends(n, server)?;
+    Ok(is_right && sends_all(server, TRAILERS_SENT))
+}
+
 fn is_held(alloc: Global) -> Result<bool, AllocError> {
     let n = default_numbering(alloc)?;
     let mut server = side(alloc, Role::Server)?;
-    let mut is_right = sends_all(&mut server, SERVER_FIRST);
-    is_right &= answers(alloc, &n, &mut server)?;
-    is_right &= sends_all(&mut server, ANSWERED);
-    is_right &= matches!(tells(&mut server, &n, WINDOW_UPDATE)?, CallEvent::NeedMore);
-    server.pump()?;
-    is_right &= server.waiting() == 0 && sends_all(&mut server, DATA_SENT);
-    is_right &= ends(&n, &mut server)?;
-    Ok(is_right && sends_all(&mut server, TRAILERS_SENT))
+    holds(alloc, &n, &mut server)
 }
 
 #[test]
@@ -95,17 +107,25 @@ fn size(event: &CallEvent) -> usize {
     }
 }
 
-fn takes_longest(alloc: Global) -> Result<usize, AllocError> {
-    let n = default_numbering(alloc)?;
-    let mut server = side(alloc, Role::Server)?;
-    let _ = tells(&mut server, &n, WITHOUT_LIMITS)?;
-    let _ = tells(&mut server, &n, FRONT)?;
+fn takes<K: CallConnection>(
+    alloc: Global,
+    n: &Numbering,
+    server: &mut K,
+) -> Result<usize, AllocError> {
+    let _ = tells(server, n, WITHOUT_LIMITS)?;
+    let _ = tells(server, n, FRONT)?;
     let mut told = 0usize;
     for _ in 0..256u32 {
         server.feed(piece(alloc)?)?;
-        told = size(&server.next(&n));
+        told = size(&server.next(n));
     }
     Ok(told)
+}
+
+fn takes_longest(alloc: Global) -> Result<usize, AllocError> {
+    let n = default_numbering(alloc)?;
+    let mut server = side(alloc, Role::Server)?;
+    takes(alloc, &n, &mut server)
 }
 
 #[test]

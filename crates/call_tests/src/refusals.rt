@@ -1,5 +1,5 @@
 //! The refusals of a call that its head or its framing decides.
-use crate::sides::{Side, side};
+use crate::sides::side;
 use bytes::Bytes;
 use grpc_stream::{CallConnection, CallEvent};
 use h2_exchange::Role;
@@ -50,28 +50,38 @@ fn head(alloc: Global, pairs: &[Pair]) -> Result<Bytes, AllocError> {
     frame(alloc, 1, 4, block.as_slice())
 }
 
-// A server that has taken its client's first bytes. What it sent so far is let go.
-fn greeted(alloc: Global, n: &Numbering) -> Result<Side, AllocError> {
-    let mut server = side(alloc, Role::Server)?;
+// A server takes its client's first bytes. What it sent so far is let go.
+fn greet<K: CallConnection>(n: &Numbering, server: &mut K) -> Result<(), AllocError> {
     server.feed(Bytes::from_static(FROM_CLIENT))?;
     let _ = server.next(n);
     let size = server.out().len();
     server.drop_out(size);
-    Ok(server)
+    Ok(())
 }
 
 // Whether a call with this head is shown as nothing, and answered by a block that ends so and ends the stream.
+fn shows_nothing<K: CallConnection>(
+    n: &Numbering,
+    server: &mut K,
+    head: Bytes,
+    wanted: &[u8],
+) -> Result<bool, AllocError> {
+    greet(n, server)?;
+    server.feed(head)?;
+    let is_quiet = matches!(server.next(n), CallEvent::NeedMore);
+    server.pump()?;
+    Ok(is_quiet && server.out().ends_with(wanted))
+}
+
 fn refuses(
     alloc: Global,
     n: &Numbering,
     pairs: &[Pair],
     wanted: &[u8],
 ) -> Result<bool, AllocError> {
-    let mut server = greeted(alloc, n)?;
-    server.feed(head(alloc, pairs)?)?;
-    let is_quiet = matches!(server.next(n), CallEvent::NeedMore);
-    server.pump()?;
-    Ok(is_quiet && server.out().ends_with(wanted))
+    let head = head(alloc, pairs)?;
+    let mut server = side(alloc, Role::Server)?;
+    shows_nothing(n, &mut server, head, wanted)
 }
 
 const POST: Pair = (b":method", b"POST");
@@ -118,6 +128,21 @@ fn a_head_is_refused_for_its_first_fault(rt: HostRuntime) -> Result<(), Fail> {
 }
 
 // Whether a call with this DATA is begun, dropped, and answered by a block that ends so.
+fn shows_drop<K: CallConnection>(
+    n: &Numbering,
+    server: &mut K,
+    frames: (Bytes, Bytes),
+    wanted: &[u8],
+) -> Result<bool, AllocError> {
+    greet(n, server)?;
+    server.feed(frames.0)?;
+    let is_begun = matches!(server.next(n), CallEvent::Begun(1, _));
+    server.feed(frames.1)?;
+    let is_dropped = matches!(server.next(n), CallEvent::Dropped(1));
+    server.pump()?;
+    Ok(is_begun && is_dropped && server.out().ends_with(wanted))
+}
+
 fn drops(
     alloc: Global,
     n: &Numbering,
@@ -125,13 +150,12 @@ fn drops(
     data: &[u8],
     wanted: &[u8],
 ) -> Result<bool, AllocError> {
-    let mut server = greeted(alloc, n)?;
-    server.feed(head(alloc, &[POST, MODIFY, GRPC])?)?;
-    let is_begun = matches!(server.next(n), CallEvent::Begun(1, _));
-    server.feed(frame(alloc, 0, flags, data)?)?;
-    let is_dropped = matches!(server.next(n), CallEvent::Dropped(1));
-    server.pump()?;
-    Ok(is_begun && is_dropped && server.out().ends_with(wanted))
+    let frames = (
+        head(alloc, &[POST, MODIFY, GRPC])?,
+        frame(alloc, 0, flags, data)?,
+    );
+    let mut server = side(alloc, Role::Server)?;
+    shows_drop(n, &mut server, frames, wanted)
 }
 
 fn framings_are_refused(alloc: Global) -> Result<bool, AllocError> {

@@ -21,7 +21,7 @@ pub(crate) fn side(alloc: Global, role: Role) -> Result<Side, AllocError> {
 }
 
 // Lets all that waits be sent, and says whether it was this.
-pub(crate) fn sends_all(calls: &mut Side, wanted: &[u8]) -> bool {
+pub(crate) fn sends_all<K: CallConnection>(calls: &mut K, wanted: &[u8]) -> bool {
     let is_it = calls.out() == wanted;
     let size = calls.out().len();
     calls.drop_out(size);
@@ -29,7 +29,11 @@ pub(crate) fn sends_all(calls: &mut Side, wanted: &[u8]) -> bool {
 }
 
 // Carries one byte, if one waits.
-pub(crate) fn carry(alloc: Global, from: &mut Side, to: &mut Side) -> Result<bool, AllocError> {
+pub(crate) fn carry<K: CallConnection>(
+    alloc: Global,
+    from: &mut K,
+    to: &mut K,
+) -> Result<bool, AllocError> {
     let Some(&byte) = from.out().first() else {
         return Ok(false);
     };
@@ -39,8 +43,8 @@ pub(crate) fn carry(alloc: Global, from: &mut Side, to: &mut Side) -> Result<boo
 }
 
 // What a side tells behind a piece, if it is one thing.
-pub(crate) fn tells(
-    calls: &mut Side,
+pub(crate) fn tells<K: CallConnection>(
+    calls: &mut K,
     n: &Numbering,
     piece: &'static [u8],
 ) -> Result<CallEvent, AllocError> {
