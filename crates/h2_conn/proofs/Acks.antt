@@ -1,7 +1,6 @@
 -- A connection that sends an acknowledgement, or credit.
-use Rattle.std.proofs.Common.{◌≡◌, ℕ, ◌<◌, ◌≤◌, ◌^◌, Bool, true, false, ◌⊎◌, inl, inr, List, [], ◌∷◌, ◌++◌, length, Option, Some, None, refl, sym, ap, subst, ◌∙◌, arith}
-use Rattle.std.specs.Prelude.{if◌then◌else◌}
-use Rattle.std.proofs.lemmas.List.{append-nil, append_assoc}
+use Rattle.std.proofs.Common.{◌≡◌, ℕ, ◌≤◌, true, false, ◌⊎◌, inl, inr, List, [], ◌∷◌, ◌++◌, length, None, refl, sym, ap, ◌∙◌, arith}
+use Rattle.std.proofs.lemmas.List.{append_assoc}
 use Rattle.h2_frames.specs.declared.frame.Frame.{Frame}
 use Rattle.h2_frames.specs.declared.frame.Frame.TheVariants.{Settings, Ping, GoAway}
 use Rattle.h2_frames.specs.declared.frame.FrameBody.{FrameBody}
@@ -13,20 +12,17 @@ use Rattle.h2_exchange.specs.declared.role.Role.TheVariants.{Client, Server}
 use Rattle.h2_exchange.specs.Blocks.{open_block, block_with}
 use Rattle.h2_exchange.specs.Content.{Outcome}
 use Rattle.h2_exchange.specs.Events.{Event}
-use Rattle.h2_exchange.specs.Exchange.{Step, Sent, received, sent}
+use Rattle.h2_exchange.specs.Exchange.{Step, Sent, sent}
 use Rattle.h2_exchange.specs.Frames.{is_data, is_headers, is_rst_stream, is_window_update, is_goaway}
 use Rattle.h2_exchange.specs.Rules.{breaks_block_on}
-use Rattle.h2_exchange.specs.Sending.{acks_in, acks_for}
-use Rattle.h2_exchange.specs.Stops.{ends_call, stop_of}
-use Rattle.h2_streams.specs.Set.{Set}
-use Rattle.h2_streams.specs.Stands as streams
+use Rattle.h2_exchange.specs.Sending.{acks_in}
+use Rattle.h2_exchange.specs.Stops.{ends_call}
 use Rattle.h2_streams.proofs.Quiet.{control_frames_change_nothing}
 use Rattle.h2_streams.proofs.SentFrames.{none_begins}
 use Rattle.http_connection.specs.ConnectionTrace.{ConnectionTrace}
 use Rattle.h2_conn.specs.State.{State}
 use Rattle.h2_conn.specs.Standing.{Going, Kept, HasCredit}
 use Rattle.h2_conn.specs.Texts.{body}
-use Rattle.h2_conn.specs.Watching.{Watch, IsWatched, stop_by}
 use Rattle.h2_conn.proofs.Lives.{going_push, credited_push, live_back}
 use Rattle.h2_conn.proofs.Sounds.{is_ack, one_ack, sends_kept, one_more, none_completed}
 use Rattle.h2_conn.proofs.Watched.{quiet_watched, bytes_sent}

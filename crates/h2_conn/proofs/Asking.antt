@@ -11,7 +11,7 @@ use Rattle.h2_exchange.specs.declared.fault.SendFault.{SendFault}
 use Rattle.h2_exchange.specs.declared.role.Role.{Role}
 use Rattle.h2_exchange.specs.Exchange.{Step, Sent, sent}
 use Rattle.h2_exchange.specs.Frames.{stream_of, is_headers}
-use Rattle.h2_exchange.specs.Streams.{of_client, highest, is_odd, is_begun, is_live, is_open, is_over, is_ended_by}
+use Rattle.h2_exchange.specs.Streams.{of_client, is_odd, is_begun, is_live, is_open, is_over, is_ended_by}
 use Rattle.h2_exchange.proofs.Steps.{begun_within}
 use Rattle.h2_streams.proofs.Standing.{live_says, open_says, room_says}
 use Rattle.h2_streams.proofs.Lists.{eqb_is}

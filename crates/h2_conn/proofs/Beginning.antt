@@ -1,8 +1,5 @@
 -- A new connection stands for its first frames.
-use Rattle.std.proofs.Common.{◌≡◌, ℕ, ◌+◌, ◌-◌, ◌<◌, ◌≤◌, ◌^◌, Bool, true, false, ◌&&◌, List, [], ◌∷◌, ◌++◌, length, Option, Some, None, refl, sym, ap, subst, ◌∙◌, arith, inl, All}
-use Rattle.std.specs.Prelude.{not, map}
-use Rattle.std.specs.List.{flat_map}
-use Rattle.std.specs.Int.{w32, to_be_bytes}
+use Rattle.std.proofs.Common.{◌≡◌, ℕ, ◌+◌, ◌-◌, ◌<◌, ◌≤◌, ◌^◌, true, false, List, [], ◌∷◌, ◌++◌, length, None, refl, sym, ap, subst, ◌∙◌, arith, inl}
 use Rattle.std.proofs.lemmas.List.{append-nil, append_assoc}
 use Rattle.std.proofs.lemmas.List.Elements.{All-nil}
 use Rattle.h2_frames.specs.declared.frame.Frame.{Frame}
@@ -18,13 +15,13 @@ use Rattle.h2_exchange.specs.declared.limits.H2Limits.{H2Limits}
 use Rattle.h2_exchange.specs.declared.role.Role.{Role}
 use Rattle.h2_exchange.specs.declared.role.Role.TheVariants.{Client, Server}
 use Rattle.h2_exchange.specs.Compression.{IsWritable}
-use Rattle.h2_exchange.specs.Exchange.{Step, Sent, Received, sent, received}
+use Rattle.h2_exchange.specs.Exchange.{Step, Sent, Received, sent}
 use Rattle.h2_exchange.specs.Order.{own_preface, peer_preface}
-use Rattle.h2_exchange.specs.Sending.{last_begun, own_settings, update_text, first_text}
-use Rattle.h2_exchange.specs.Stops.{before_stop, ends_call, request_bytes, stop_of}
-use Rattle.h2_exchange.specs.Streams.{is_begun, is_live, is_over}
+use Rattle.h2_exchange.specs.Sending.{last_begun, own_settings, first_text}
+use Rattle.h2_exchange.specs.Stops.{before_stop, ends_call}
+use Rattle.h2_exchange.specs.Streams.{is_live}
 use Rattle.h2_exchange.specs.Windows.{granted_on}
-use Rattle.h2_exchange.proofs.Steps.{sent_push, window_sums_grow}
+use Rattle.h2_exchange.proofs.Steps.{window_sums_grow}
 use Rattle.h2_streams.specs.Set.{Set, credited}
 use Rattle.h2_streams.specs.Set as streams
 use Rattle.h2_streams.specs.Stands.{StandsFor}

@@ -1,7 +1,7 @@
 -- A connection that sends a header block in frames.
-use Rattle.std.proofs.Common.{◌≡◌, ℕ, zero, suc, ◌+◌, ◌-◌, ◌*◌, ◌<◌, ◌≤◌, ◌^◌, Bool, true, false, ◌||◌, ◌&&◌, List, [], ◌∷◌, ◌++◌, length, take, drop, map, Option, Some, None, refl, sym, ap, subst, ◌∙◌, arith, All, inl, inr, ◌⊎◌}
+use Rattle.std.proofs.Common.{◌≡◌, ℕ, zero, suc, ◌+◌, ◌*◌, ◌<◌, ◌≤◌, ◌^◌, Bool, true, false, List, [], ◌∷◌, ◌++◌, length, take, drop, map, Option, Some, None, refl, sym, ap, subst, ◌∙◌, arith, All}
 use Rattle.std.specs.Prelude.{not, replicate, ◌==◌, if◌then◌else◌}
-use Rattle.std.proofs.lemmas.List.{append_assoc, append-nil, length-drop, length-take, take-append-drop}
+use Rattle.std.proofs.lemmas.List.{append_assoc, length-drop, length-take, take-append-drop}
 use Rattle.std.proofs.lemmas.List.Elements.{All-nil, All-cons, All-append}
 use Rattle.h2_frames.specs.declared.frame.Frame.{Frame}
 use Rattle.h2_frames.specs.declared.frame.Frame.TheVariants.{Headers, Continuation}
@@ -11,17 +11,15 @@ use Rattle.hpack_tables.specs.declared.field.Field.{Field}
 use Rattle.hpack_tables.specs.Writing.{Encoder, Writes, fresh}
 use Rattle.h2_exchange.specs.declared.role.Role.{Role}
 use Rattle.h2_exchange.specs.declared.role.Role.TheVariants.{Client, Server}
-use Rattle.h2_exchange.specs.Blocks.{Block, completed, completed_by, left_open, block_with}
-use Rattle.h2_exchange.specs.Compression.{AreWritten, IsWritable}
+use Rattle.h2_exchange.specs.Blocks.{Block, completed, completed_by, left_open}
+use Rattle.h2_exchange.specs.Compression.{IsWritable}
 use Rattle.h2_exchange.specs.Content.{Outcome}
 use Rattle.h2_exchange.specs.Exchange.{Step, Sent, sent}
-use Rattle.h2_exchange.specs.Rules.{breaks_block_on}
 use Rattle.h2_exchange.specs.Stops.{ends_call}
-use Rattle.h2_exchange.specs.Streams.{is_open}
 use Rattle.h2_exchange.specs.declared.limits.H2Limits.{H2Limits}
 use Rattle.h2_streams.specs.declared.live.Stream.{Stream}
 use Rattle.h2_streams.specs.Live.{replaced}
-use Rattle.h2_streams.specs.Set.{Set, at, is_open_in, closed_local, dropped, finished}
+use Rattle.h2_streams.specs.Set.{Set, at, is_open_in, closed_local, dropped}
 use Rattle.h2_streams.specs.Stands as streams
 use Rattle.h2_streams.proofs.Lists.{self_eq}
 use Rattle.h2_streams.proofs.SentBlocks.{header_frames_change_nothing, finishes}

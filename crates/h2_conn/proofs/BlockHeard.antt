@@ -1,14 +1,12 @@
 -- A header block that was read, on a stream or none.
-use Rattle.std.proofs.Common.{◌≡◌, ℕ, ◌+◌, Bool, true, false, ◌||◌, ◌&&◌, List, [], ◌∷◌, ◌++◌, length, Option, Some, None, Result, Ok, Err, refl, sym, ap, subst, ◌∙◌, arith}
-use Rattle.std.specs.Prelude.{not, is_some, nat_lt, option_map, sum_by, ◌==◌, if◌then◌else◌}
+use Rattle.std.proofs.Common.{◌≡◌, ℕ, ◌+◌, Bool, true, false, ◌||◌, ◌&&◌, List, [], ◌∷◌, ◌++◌, Option, Some, None, Ok, refl, sym, ap, subst, ◌∙◌, arith}
+use Rattle.std.specs.Prelude.{not, is_some, if◌then◌else◌}
 use Rattle.std.specs.Option.{option_or}
-use Rattle.std.specs.List.{list_any}
 use Rattle.std.proofs.lemmas.List.{append-nil}
 use Rattle.h2_frames.specs.declared.code.ErrorCode.{ErrorCode}
 use Rattle.h2_frames.specs.declared.code.TheConstants.ErrorCode as code
 use Rattle.h2_frames.specs.declared.frame.Frame.{Frame}
 use Rattle.h2_frames.specs.declared.frame.Frame.TheVariants.{RstStream}
-use Rattle.h2_frames.specs.declared.frame.FrameBody.{FrameBody}
 use Rattle.h2_frames.specs.Layout.{size_of as frame_size}
 use Rattle.h2_frames.specs.Stream.{place_at}
 use Rattle.hpack_tables.specs.declared.field.Field.{Field}
@@ -18,13 +16,13 @@ use Rattle.h2_exchange.specs.declared.role.Role.{Role}
 use Rattle.h2_exchange.specs.declared.role.Role.TheVariants.{Client, Server}
 use Rattle.h2_exchange.specs.Blocks.{Block, completed, open_block}
 use Rattle.h2_exchange.specs.Content.{Outcome, is_malformed, outcome_at, outcome_for, stream_error}
-use Rattle.h2_exchange.specs.Events.{Event, Ended, Head, Reset, block_events, bytes_on, events_by, events_of, read_events, sound_events, trailers_events}
-use Rattle.h2_exchange.specs.Exchange.{Step, Received, Sent, received, sent}
+use Rattle.h2_exchange.specs.Events.{Event, Head, Reset, bytes_on, events_by, events_of, read_events, sound_events, trailers_events}
+use Rattle.h2_exchange.specs.Exchange.{Step, Received, Sent, received}
 use Rattle.h2_exchange.specs.Frames.{stream_of}
 use Rattle.h2_exchange.specs.Sending.{ResetsErrors}
 use Rattle.h2_exchange.specs.StreamErrors.{block_error, completed_error, live_error, stream_error_of}
-use Rattle.h2_exchange.specs.Stops.{Calm, Stop, ends_call, frame_stop, is_end, request_bytes, stop_at}
-use Rattle.h2_exchange.specs.Streams.{begins, has_head, is_begun, is_live, is_live_at, is_over}
+use Rattle.h2_exchange.specs.Stops.{Calm, ends_call, frame_stop, is_end, request_bytes, stop_at}
+use Rattle.h2_exchange.specs.Streams.{begins, has_head, is_begun, is_live, is_live_at}
 use Rattle.h2_exchange.proofs.Steps.{begins_once, begun_push}
 use Rattle.h2_streams.specs.declared.set.receive.SeenStream.{SeenStream}
 use Rattle.h2_streams.specs.Laws.{with_malformed}
@@ -43,7 +41,7 @@ use Rattle.h2_conn.specs.Receiving.{over_unless, passed, with_reset_of}
 use Rattle.h2_conn.specs.State.{State}
 use Rattle.h2_conn.specs.Standing.{Going, HasCredit, ends_of}
 use Rattle.h2_conn.specs.Steps.{Waiting}
-use Rattle.h2_conn.specs.Watching.{IsAsked, IsWatched, Watch, asked_on}
+use Rattle.h2_conn.specs.Watching.{IsWatched, Watch}
 use Rattle.h2_conn.proofs.BlockRead.{content_goes, long_ends, outcome_is}
 use Rattle.h2_conn.proofs.DataHeard.{over_passed, over_said}
 use Rattle.h2_conn.proofs.ErrorHeard.{error_goes}

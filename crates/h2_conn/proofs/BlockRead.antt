@@ -1,8 +1,7 @@
 -- A frame that completes its header block, which is read.
-use Rattle.std.proofs.Common.{◌≡◌, ℕ, ◌+◌, ◌≤◌, Bool, true, false, ◌||◌, ◌&&◌, List, [], ◌∷◌, ◌++◌, length, length-append, Option, Some, None, Result, Ok, Err, refl, sym, ap, subst, ◌∙◌, arith}
-use Rattle.std.specs.Prelude.{not, is_some, nat_lt, option_map, option_to_list, slice_get, sum_by, MatchOption, ◌==◌, if◌then◌else◌}
+use Rattle.std.proofs.Common.{◌≡◌, ℕ, ◌≤◌, Bool, true, false, ◌||◌, List, [], ◌∷◌, ◌++◌, length, length-append, Option, Some, None, Ok, Err, refl, sym, ap, subst, ◌∙◌, arith}
+use Rattle.std.specs.Prelude.{nat_lt, option_map, option_to_list, sum_by, MatchOption, if◌then◌else◌}
 use Rattle.std.specs.Option.{option_or}
-use Rattle.h2_frames.specs.declared.code.ErrorCode.{ErrorCode}
 use Rattle.h2_frames.specs.declared.code.TheConstants.ErrorCode as code
 use Rattle.h2_frames.specs.declared.frame.Frame.{Frame}
 use Rattle.hpack_tables.specs.Answers.{FaultIsAllowedBy}
@@ -13,7 +12,6 @@ use Rattle.hpack_tables.specs.declared.fault.HpackFault.{HpackFault}
 use Rattle.hpack_tables.specs.declared.fault.HpackFault.TheVariants.{BadIndex, BadInteger, BadString, LateSizeUpdate, SizeTooLarge, ListTooLong, NoMemory}
 use Rattle.hpack_tables.specs.declared.field.Field.{Field}
 use Rattle.h2_exchange.specs.declared.limits.CalmCause.TheVariants.{HeaderList}
-use Rattle.h2_exchange.specs.declared.limits.H2Limits.{H2Limits}
 use Rattle.h2_exchange.specs.declared.role.Role.{Role}
 use Rattle.h2_exchange.specs.Blocks.{Block, block_with, blocks, completed, open_block}
 use Rattle.h2_exchange.specs.Content.{Outcome, outcome_at, outcome_for}
@@ -22,7 +20,7 @@ use Rattle.h2_exchange.specs.Frames.{stream_of, has_end_headers, is_continuation
 use Rattle.h2_exchange.specs.Outcomes.{AreKnown, ReadFirst}
 use Rattle.h2_exchange.specs.Rules.{frame_error}
 use Rattle.h2_exchange.specs.Sending.{last_begun}
-use Rattle.h2_exchange.specs.Stops.{Calm, Error, Stop, block_stop, content_stop, frame_stop, place_behind, stop_at}
+use Rattle.h2_exchange.specs.Stops.{Calm, Stop, block_stop, content_stop, frame_stop, place_behind}
 use Rattle.h2_exchange.proofs.Heads.{all_enough}
 use Rattle.h2_exchange.proofs.Steps.{header_blocks_grow, received_push}
 use Rattle.h2_streams.specs.Set.{Set}
@@ -38,7 +36,7 @@ use Rattle.h2_conn.specs.Steps.{Waiting}
 use Rattle.h2_conn.proofs.Halting.{ending, starves}
 use Rattle.h2_conn.proofs.HeaderParts.{all_read_push, last_outcome, read_first_fault}
 use Rattle.h2_conn.proofs.Hearing.{as_many, known_by}
-use Rattle.h2_conn.proofs.PartHeard.{block_is, block_limit, follows, frame_stop_is}
+use Rattle.h2_conn.proofs.PartHeard.{block_is, block_limit, frame_stop_is}
 use Rattle.h2_conn.proofs.Received.{before}
 
 or_some : {A : Type 0} (a b : Option A) (v : A) → a ≡ Some v → option_or a b ≡ Some v

@@ -1,5 +1,5 @@
 -- Header blocks and stream errors, in the words of the calls.
-use Rattle.std.proofs.Common.{◌≡◌, ℕ, Bool, true, false, ◌||◌, ◌&&◌, List, [], ◌∷◌, ◌++◌, Option, Some, None, Result, Ok, Err, refl, sym, ap, subst, ◌∙◌}
+use Rattle.std.proofs.Common.{◌≡◌, ℕ, Bool, true, false, ◌||◌, List, Option, Some, None, Ok, Err, refl, sym, ap, subst, ◌∙◌}
 use Rattle.std.specs.Prelude.{if◌then◌else◌}
 use Rattle.std.specs.Option.{option_or}
 use Rattle.h2_frames.specs.declared.code.ErrorCode.{ErrorCode}
@@ -11,7 +11,7 @@ use Rattle.hpack_tables.specs.declared.field.Field.{Field}
 use Rattle.h2_exchange.specs.declared.limits.CalmCause.{CalmCause}
 use Rattle.h2_exchange.specs.declared.limits.H2Limits.{H2Limits}
 use Rattle.h2_exchange.specs.declared.role.Role.{Role}
-use Rattle.h2_exchange.specs.Blocks.{Block, block_with, completed, open_block}
+use Rattle.h2_exchange.specs.Blocks.{Block, block_with, open_block}
 use Rattle.h2_exchange.specs.Exchange.{Step, received}
 use Rattle.h2_exchange.specs.Frames.{stream_of, has_end_headers, is_continuation, is_headers}
 use Rattle.h2_exchange.specs.StreamErrors.{completed_error, live_error}

@@ -1,7 +1,6 @@
 -- Events that were to be told are told.
-use Rattle.std.proofs.Common.{◌≡◌, ℕ, Bool, false, List, [], ◌∷◌, ◌++◌, Option, None, refl, sym, ap, subst, ◌∙◌}
+use Rattle.std.proofs.Common.{◌≡◌, List, [], ◌++◌, None, refl, sym, ◌∙◌}
 use Rattle.std.proofs.lemmas.List.{append_assoc}
-use Rattle.hpack_tables.specs.Writing.{Encoder}
 use Rattle.h2_exchange.specs.Events.{Event}
 use Rattle.h2_exchange.specs.Sending.{ResetsErrors}
 use Rattle.http_connection.specs.ConnectionTrace.{ConnectionTrace}

@@ -1,6 +1,6 @@
 -- A connection that takes a frame of control and answers it.
-use Rattle.std.proofs.Common.{◌≡◌, ℕ, ◌+◌, ◌≤◌, min, Bool, true, false, ◌⊎◌, inl, inr, ◌||◌, ◌&&◌, List, [], ◌∷◌, ◌++◌, length, Option, Some, None, refl, sym, ap, subst, ◌∙◌, arith}
-use Rattle.std.specs.Prelude.{not, option_map, sum_by, map, ◌==◌, if◌then◌else◌}
+use Rattle.std.proofs.Common.{◌≡◌, ℕ, ◌+◌, Bool, true, false, ◌&&◌, List, [], ◌∷◌, ◌++◌, length, Option, Some, None, refl, sym, ap, subst, ◌∙◌, arith}
+use Rattle.std.specs.Prelude.{not, option_map, sum_by, ◌==◌, if◌then◌else◌}
 use Rattle.std.specs.Option.{option_or}
 use Rattle.std.specs.List.{flat_map}
 use Rattle.std.proofs.lemmas.List.{append-nil, append_assoc}
@@ -13,19 +13,18 @@ use Rattle.h2_frames.specs.declared.frame.FrameBody.{FrameBody}
 use Rattle.h2_frames.specs.Layout.{frame_text, size_of}
 use Rattle.h2_frames.specs.Stream.{place_after, place_at}
 use Rattle.hpack_tables.specs.Writing.{Encoder}
-use Rattle.h2_exchange.specs.declared.limits.H2Limits.{H2Limits}
 use Rattle.h2_exchange.specs.declared.role.Role.{Role}
-use Rattle.h2_exchange.specs.Blocks.{Block, blocks, open_block, completed}
+use Rattle.h2_exchange.specs.Blocks.{Block, blocks, open_block}
 use Rattle.h2_exchange.specs.Compression.{limited_by}
-use Rattle.h2_exchange.specs.Content.{Outcome, outcome_at, outcome_for, is_malformed, stream_error}
-use Rattle.h2_exchange.specs.Events.{Event, GoneAway, events_of}
-use Rattle.h2_exchange.specs.Exchange.{Step, Received, Sent, received, sent, first_broken}
+use Rattle.h2_exchange.specs.Content.{Outcome, outcome_for, is_malformed, stream_error}
+use Rattle.h2_exchange.specs.Events.{Event, GoneAway}
+use Rattle.h2_exchange.specs.Exchange.{Step, Received, Sent, received, first_broken}
 use Rattle.h2_exchange.specs.Frames.{stream_of, is_continuation, is_push_promise, is_goaway, has_ack, counted, last_stream_of, goaway_code_of}
 use Rattle.h2_exchange.specs.Order.{peer_preface}
-use Rattle.h2_exchange.specs.Rules.{frame_error, shape_error, value_error, breaks_start, breaks_block_on, breaks_number, breaks_length, breaks_padding}
-use Rattle.h2_exchange.specs.Sending.{ack_for, credit_text, IsCredited, ResetsErrors}
+use Rattle.h2_exchange.specs.Rules.{frame_error, shape_error, breaks_start, breaks_block_on, breaks_number, breaks_length, breaks_padding}
+use Rattle.h2_exchange.specs.Sending.{ack_for, credit_text, ResetsErrors}
 use Rattle.h2_exchange.specs.StreamErrors.{stream_error_of}
-use Rattle.h2_exchange.specs.Stops.{Stop, stop_of}
+use Rattle.h2_exchange.specs.Stops.{stop_of}
 use Rattle.h2_exchange.specs.Streams.{of_client, highest}
 use Rattle.h2_streams.specs.Set.{Set}
 use Rattle.h2_streams.specs.Stands as streams

@@ -1,26 +1,23 @@
 -- DATA that break no rule.
-use Rattle.std.proofs.Common.{◌≡◌, ℕ, ◌+◌, ◌<◌, ◌≤◌, ◌^◌, Bool, true, false, ◌||◌, ◌&&◌, List, [], ◌∷◌, ◌++◌, length, map, Option, Some, None, refl, sym, ap, subst, ◌∙◌, arith}
-use Rattle.std.specs.Prelude.{not, is_some, ◌==◌, if◌then◌else◌}
-use Rattle.std.specs.List.{flat_map}
+use Rattle.std.proofs.Common.{◌≡◌, ℕ, ◌+◌, Bool, true, false, ◌||◌, ◌&&◌, List, [], ◌∷◌, ◌++◌, map, Option, Some, None, refl, sym, ap, subst, ◌∙◌, arith}
+use Rattle.std.specs.Prelude.{not, is_some, if◌then◌else◌}
 use Rattle.std.proofs.lemmas.List.{append-nil, append_assoc}
 use Rattle.h2_frames.specs.declared.code.ErrorCode.{ErrorCode}
 use Rattle.h2_frames.specs.declared.frame.Frame.{Frame}
-use Rattle.h2_frames.specs.Layout.{body_of, frame_text, size_of}
+use Rattle.h2_frames.specs.Layout.{body_of, size_of}
 use Rattle.h2_frames.specs.Stream.{place_at}
 use Rattle.h2_exchange.specs.declared.limits.H2Limits.{H2Limits}
 use Rattle.h2_exchange.specs.declared.role.Role.{Role}
 use Rattle.h2_exchange.specs.declared.role.Role.TheVariants.{Client, Server}
-use Rattle.h2_exchange.specs.Blocks.{Block, data_of, completed, open_block}
+use Rattle.h2_exchange.specs.Blocks.{data_of, completed}
 use Rattle.h2_exchange.specs.Content.{Outcome, stream_error}
 use Rattle.h2_exchange.specs.Events.{Event, Data, Ended, data_events, events_of, events_by, sound_events, bytes_on}
-use Rattle.h2_exchange.specs.Exchange.{Step, Received, Sent, received, sent}
-use Rattle.h2_exchange.specs.Frames.{stream_of, is_data, is_rst_stream, has_end_stream, counted}
-use Rattle.h2_exchange.specs.Rules.{frame_error}
-use Rattle.h2_exchange.specs.Sending.{ack_for, credit_text, IsCredited, ResetsErrors}
-use Rattle.h2_exchange.specs.Stops.{cuts_request, ends_call, has_request, is_end, request_bytes, stop_at, stop_of}
+use Rattle.h2_exchange.specs.Exchange.{Step, Received, Sent, received}
+use Rattle.h2_exchange.specs.Frames.{stream_of, is_data, has_end_stream, counted}
+use Rattle.h2_exchange.specs.Sending.{IsCredited, ResetsErrors}
+use Rattle.h2_exchange.specs.Stops.{cuts_request, ends_call, has_request, is_end, request_bytes, stop_at}
 use Rattle.h2_exchange.specs.Streams.{is_begun, is_live, is_live_at}
 use Rattle.h2_streams.specs.declared.set.receive.SeenStream.{SeenStream}
-use Rattle.h2_streams.specs.Set.{Set}
 use Rattle.h2_streams.proofs.Lists.{self_eq, isnt}
 use Rattle.http_connection.specs.Answers.{AreReply, AreReplyBy}
 use Rattle.http_connection.specs.ConnectionTrace.{ConnectionTrace}
@@ -30,18 +27,18 @@ use Rattle.h2_conn.specs.Receiving.{ended_by, heard_on, over_unless, passed, wit
 use Rattle.h2_conn.specs.State.{State}
 use Rattle.h2_conn.specs.Standing.{Going, HasCredit, Kept, ends_of}
 use Rattle.h2_conn.specs.Steps.{Waiting}
-use Rattle.h2_conn.specs.Watching.{Watch, IsWatched, ended_if, over_on, taken_on}
+use Rattle.h2_conn.specs.Watching.{Watch, IsWatched}
 use Rattle.h2_conn.proofs.Further.{resets_known}
 use Rattle.h2_conn.proofs.Granting.{Sends, credit_sends, credit_sides, sent_on}
 use Rattle.h2_conn.proofs.Halting.{starves}
 use Rattle.h2_conn.proofs.Hearing.{heard}
-use Rattle.h2_conn.proofs.Loose.{IsData, begins_none, begun_stays, bytes_same, client_same, data_bytes, live_back, live_begun, over_watched, quiet_heard, resets_sent, server_more, small_count, stop_goes}
+use Rattle.h2_conn.proofs.Loose.{IsData, begun_stays, bytes_same, client_same, data_bytes, live_back, live_begun, over_watched, quiet_heard, resets_sent, server_more, small_count, stop_goes}
 use Rattle.h2_conn.proofs.LooseHeard.{block_is, credit_again, decodes, error_is, goes, heads, opened, owed_all, owed_stream}
 use Rattle.h2_conn.proofs.Midway.{Mid, going_of, mid_as, mid_of, mid_watch}
 use Rattle.h2_conn.proofs.Plain.{none_completed}
-use Rattle.h2_conn.proofs.Received.{IsQuiet, answered, before, clear_behind, kept, mid, quiet_is, takes, unrefused, watched_before}
+use Rattle.h2_conn.proofs.Received.{IsQuiet, answered, clear_behind, kept, mid, quiet_is, takes, unrefused, watched_before}
 use Rattle.h2_conn.proofs.Splits.{resets_heard}
-use Rattle.h2_conn.proofs.Watched.{count_push, cuts, ends, quiet_count, unbegun}
+use Rattle.h2_conn.proofs.Watched.{count_push, ends, quiet_count, unbegun}
 use Rattle.h2_conn.proofs.Watching.{more_watched, same_passed}
 
 -- ---- what a watch says behind DATA

@@ -1,12 +1,12 @@
 -- A connection whose side of a stream ends.
-use Rattle.std.proofs.Common.{◌≡◌, ℕ, ◌+◌, ◌≤◌, Bool, true, false, ◌||◌, ◌&&◌, List, [], ◌∷◌, ◌++◌, length, drop, Option, Some, None, refl, sym, ap, subst, ◌∙◌, arith}
-use Rattle.std.specs.Prelude.{not, is_some, is_err, find, filter, Result, Ok, Err, OnOk, ◌==◌, if◌then◌else◌}
+use Rattle.std.proofs.Common.{◌≡◌, ℕ, Bool, true, false, List, [], ◌∷◌, Option, Some, None, refl, sym, ap, subst, ◌∙◌}
+use Rattle.std.specs.Prelude.{not, is_some, is_err, find, Result, Ok, Err, OnOk, ◌==◌, if◌then◌else◌}
 use Rattle.h2_exchange.specs.declared.limits.H2Limits.{H2Limits}
 use Rattle.h2_exchange.specs.declared.role.Role.{Role}
 use Rattle.h2_exchange.specs.Content.{Outcome}
 use Rattle.h2_exchange.specs.Exchange.{Step}
 use Rattle.h2_exchange.specs.Stops.{request_bytes}
-use Rattle.h2_exchange.specs.Streams.{is_begun, is_live}
+use Rattle.h2_exchange.specs.Streams.{is_live}
 use Rattle.hpack_tables.specs.Writing.{Encoder}
 use Rattle.h2_streams.specs.Set.{Set, at, begun}
 use Rattle.h2_streams.proofs.Lists.{by_number}

@@ -1,12 +1,10 @@
 -- The joint step of a stream error: its frame is received, and the reset of its stream is sent.
-use Rattle.std.proofs.Common.{◌≡◌, ℕ, ◌+◌, ◌-◌, ◌<◌, ◌≤◌, ◌^◌, Bool, true, false, ◌||◌, ◌&&◌, List, [], ◌∷◌, ◌++◌, length, map, Option, Some, None, refl, sym, ap, subst, ◌∙◌, arith}
-use Rattle.std.specs.Prelude.{not, is_some, ◌==◌, if◌then◌else◌}
+use Rattle.std.proofs.Common.{◌≡◌, ℕ, ◌+◌, Bool, true, false, List, [], ◌∷◌, ◌++◌, map, Option, Some, None, refl, sym, ap, subst, ◌∙◌, arith}
+use Rattle.std.specs.Prelude.{◌==◌, if◌then◌else◌}
 use Rattle.std.specs.List.{flat_map}
-use Rattle.std.specs.Option.{option_or}
 use Rattle.std.proofs.lemmas.List.{append-nil, append_assoc}
 use Rattle.h2_frames.specs.declared.code.ErrorCode.{ErrorCode}
 use Rattle.h2_frames.specs.declared.frame.Frame.{Frame}
-use Rattle.h2_frames.specs.declared.frame.Frame.TheVariants as kind
 use Rattle.h2_frames.specs.declared.frame.Frame.TheVariants.{RstStream}
 use Rattle.h2_frames.specs.declared.frame.FrameBody.{FrameBody}
 use Rattle.h2_frames.specs.Layout.{body_of, frame_text, size_of}
@@ -14,24 +12,23 @@ use Rattle.h2_frames.specs.Stream.{place_at}
 use Rattle.hpack_tables.specs.Decoder.{Decoder}
 use Rattle.h2_exchange.specs.declared.limits.H2Limits.{H2Limits}
 use Rattle.h2_exchange.specs.declared.role.Role.{Role}
-use Rattle.h2_exchange.specs.Blocks.{Block, blocks, completed, open_block}
+use Rattle.h2_exchange.specs.Blocks.{Block, blocks, open_block}
 use Rattle.h2_exchange.specs.Content.{Outcome, stream_error}
 use Rattle.h2_exchange.specs.Events.{Event, Reset, events_by, events_of, sound_events}
 use Rattle.h2_exchange.specs.Exchange.{Step, Received, Sent, received, sent}
 use Rattle.h2_exchange.specs.Frames.{stream_of, counted}
-use Rattle.h2_exchange.specs.Sending.{acks_in, acks_for, credit_text, IsCredited, reset_text, ResetsErrors}
+use Rattle.h2_exchange.specs.Sending.{acks_in, credit_text, IsCredited, reset_text, ResetsErrors}
 use Rattle.h2_exchange.specs.Stops.{request_bytes, stop_at, stop_of}
 use Rattle.h2_exchange.specs.Streams.{is_begun, is_live}
 use Rattle.h2_exchange.specs.Windows.{granted_on, spent, spent_on}
-use Rattle.h2_exchange.proofs.Steps.{received_push, received_sent, sent_push, sent_received, window_sums_grow}
-use Rattle.h2_streams.specs.declared.live.Stream.{Stream}
+use Rattle.h2_exchange.proofs.Steps.{received_sent, sent_push, window_sums_grow}
 use Rattle.h2_streams.specs.Set.{Set, at, owed_in}
 use Rattle.h2_streams.specs.Stands as streams
 use Rattle.h2_streams.specs.Stands.{stream_at}
 use Rattle.h2_streams.proofs.Lists.{isnt}
 use Rattle.h2_streams.proofs.Resets.{live_same, now_dead}
 use Rattle.h2_streams.proofs.Standing.{at_is}
-use Rattle.http_connection.specs.Answers.{AreReply, AreReplyBy, credit_for}
+use Rattle.http_connection.specs.Answers.{AreReply, AreReplyBy}
 use Rattle.http_connection.specs.ConnectionTrace.{ConnectionTrace}
 use Rattle.h2_conn.specs.Credit.{owed_by, with_credit}
 use Rattle.h2_conn.specs.Hears.{Taken}
@@ -39,15 +36,15 @@ use Rattle.h2_conn.specs.Receiving.{passed, with_reset_of}
 use Rattle.h2_conn.specs.State.{State}
 use Rattle.h2_conn.specs.Standing.{Decodes, Going, HasCredit, IsWithinCredit, Kept, ends_of}
 use Rattle.h2_conn.specs.Steps.{Waiting}
-use Rattle.h2_conn.specs.Watching.{Watch, IsAsked, IsWatched, asked_on, cut_on, stop_by}
+use Rattle.h2_conn.specs.Watching.{IsAsked, IsWatched, asked_on, cut_on, stop_by}
 use Rattle.h2_conn.proofs.Further.{resets_known}
-use Rattle.h2_conn.proofs.Granting.{Grants, Sends, credit_sends, credit_sides, sent_on}
+use Rattle.h2_conn.proofs.Granting.{Grants, credit_sends, credit_sides, sent_on}
 use Rattle.h2_conn.proofs.Hearing.{heard}
-use Rattle.h2_conn.proofs.Loose.{begun_stays, resets_sent, small_count}
+use Rattle.h2_conn.proofs.Loose.{resets_sent, small_count}
 use Rattle.h2_conn.proofs.LooseHeard.{granted_behind, spent_behind, spent_on_behind}
 use Rattle.h2_conn.proofs.Midway.{Mid, going_of, mid_as, mid_push}
 use Rattle.h2_conn.proofs.NextMessage.{cut_watched}
-use Rattle.h2_conn.proofs.Received.{IsQuiet, answered, clear_behind, kept, mid, takes, unrefused}
+use Rattle.h2_conn.proofs.Received.{IsQuiet, clear_behind, kept, mid, takes, unrefused}
 use Rattle.h2_conn.proofs.Resetting.{reset_body}
 use Rattle.h2_conn.proofs.Sounds.{no_ack, one_more, sends_kept}
 use Rattle.h2_conn.proofs.Splits.{Cut, cut_push, frame_or, is_sent, last, within}

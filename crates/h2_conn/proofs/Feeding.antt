@@ -1,17 +1,17 @@
 -- A connection that is fed, emptied and asked.
-use Rattle.std.proofs.Common.{◌≡◌, ℕ, ◌<◌, ◌≤◌, ◌+◌, Bool, true, false, ◌&&◌, List, [], ◌∷◌, ◌++◌, length, length-append, take, drop, Option, None, refl, sym, ap, subst, ◌∙◌, arith}
-use Rattle.std.proofs.lemmas.List.{append-nil, append_assoc, drop-append-le, length-drop, take-append-drop}
+use Rattle.std.proofs.Common.{◌≡◌, ℕ, ◌≤◌, List, [], ◌∷◌, ◌++◌, length, length-append, take, drop, None, sym, ap, subst, ◌∙◌, arith}
+use Rattle.std.proofs.lemmas.List.{append_assoc, drop-append-le, length-drop, take-append-drop}
 use Rattle.h2_frames.specs.declared.frame.Frame.{Frame}
 use Rattle.h2_frames.specs.Reader.{Reader}
-use Rattle.h2_frames.specs.Stream.{CarriesPiece, EndsBetween, MatchesPreface, Reads}
+use Rattle.h2_frames.specs.Stream.{CarriesPiece, Reads}
 use Rattle.h2_frames.proofs.Prefixes.{MatchesPreface-append}
 use Rattle.h2_frames.proofs.Streams.{Reads-append}
 use Rattle.h2_exchange.specs.Exchange.{received}
-use Rattle.h2_exchange.specs.Order.{peer_preface, own_preface, end_of}
+use Rattle.h2_exchange.specs.Order.{peer_preface}
 use Rattle.h2_exchange.specs.Outcomes.{BeginWithFrames}
 use Rattle.http_connection.specs.ConnectionTrace.{ConnectionTrace, fed_more, dropped_more}
 use Rattle.h2_conn.specs.State.{State}
-use Rattle.h2_conn.specs.Standing.{Kept, Going, Stands}
+use Rattle.h2_conn.specs.Standing.{Stands}
 
 stand_first : (due bytes piece : List ℕ) (fs : List Frame) → BeginWithFrames due bytes fs → BeginWithFrames due (bytes ++ piece) fs
 stand_first due bytes piece [] h = tt

@@ -1,7 +1,6 @@
 -- Header blocks in frames, byte by byte.
 use Rattle.std.proofs.Common.{◌≡◌, ℕ, zero, suc, ◌+◌, ◌-◌, ◌*◌, ◌/◌, ◌≤◌, ◌<◌, Bool, List, [], ◌∷◌, ◌++◌, length, length-append, take, drop, refl, sym, ap, ◌∙◌, arith}
-use Rattle.std.proofs.lemmas.List.{append_assoc, append-nil, drop-append-le, drop-drop, length-drop, length-take-le, take-append-drop}
-use Rattle.http_connection.specs.Sends.{last_flag}
+use Rattle.std.proofs.lemmas.List.{append_assoc, drop-append-le, length-drop, length-take-le, take-append-drop}
 use Rattle.h2_conn.specs.Blocks.{header_text, frames_text, more_frames, block_text}
 
 take_front : (old more : List ℕ) → take (length old) (old ++ more) ≡ old

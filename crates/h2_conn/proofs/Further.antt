@@ -1,17 +1,14 @@
 -- What is known of an exchange stays where more is known of its header blocks.
-use Rattle.std.proofs.Common.{◌≡◌, ℕ, ◌+◌, Bool, true, false, List, [], ◌∷◌, ◌++◌, length, Option, Some, None, refl, sym, ap, subst, ◌∙◌}
+use Rattle.std.proofs.Common.{◌≡◌, ℕ, ◌+◌, Bool, List, [], ◌∷◌, ◌++◌, length, None, refl, sym, ap, subst, ◌∙◌}
 use Rattle.std.specs.Prelude.{if◌then◌else◌}
-use Rattle.std.proofs.lemmas.List.{append-nil, append_assoc}
-use Rattle.h2_frames.specs.declared.code.ErrorCode.{ErrorCode}
-use Rattle.h2_frames.specs.declared.frame.Frame.{Frame}
+use Rattle.std.proofs.lemmas.List.{append_assoc}
 use Rattle.h2_exchange.specs.declared.limits.H2Limits.{H2Limits}
 use Rattle.h2_exchange.specs.declared.role.Role.{Role}
-use Rattle.h2_exchange.specs.Content.{Outcome, stream_error}
-use Rattle.h2_exchange.specs.Exchange.{Step, Received, Sent, collect}
+use Rattle.h2_exchange.specs.Content.{Outcome}
+use Rattle.h2_exchange.specs.Exchange.{Step, Received, collect}
 use Rattle.h2_exchange.specs.Outcomes.{AreEnough}
 use Rattle.h2_exchange.specs.Sending.{ResetsErrors}
-use Rattle.h2_exchange.specs.Stops.{stop_of, events, count_steps, cuts_request, ends_call, request_bytes}
-use Rattle.h2_exchange.specs.Streams.{is_live}
+use Rattle.h2_exchange.specs.Stops.{stop_of, events, cuts_request, ends_call}
 use Rattle.h2_exchange.proofs.Heads.{later_blocks_change_nothing, enough_front, passed_front, passed_step, error_same, ends_same, cuts_same, bytes_same}
 use Rattle.h2_conn.specs.Watching.{Watch, IsWatched, IsAsked, asked_on}
 

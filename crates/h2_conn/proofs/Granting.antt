@@ -1,5 +1,5 @@
 -- A connection that makes windows whole.
-use Rattle.std.proofs.Common.{◌≡◌, ℕ, zero, suc, ◌+◌, ◌-◌, ◌<◌, ◌≤◌, ◌^◌, Bool, true, false, ◌||◌, ◌&&◌, List, [], ◌∷◌, ◌++◌, map, Option, Some, None, refl, sym, ap, subst, ◌∙◌, arith}
+use Rattle.std.proofs.Common.{◌≡◌, ℕ, ◌+◌, ◌<◌, ◌^◌, Bool, true, false, ◌||◌, ◌&&◌, List, [], ◌∷◌, ◌++◌, map, refl, sym, ap, subst, ◌∙◌, arith}
 use Rattle.std.specs.Prelude.{not, nat_lt, ◌==◌, if◌then◌else◌}
 use Rattle.std.specs.List.{flat_map}
 use Rattle.std.proofs.lemmas.List.{append-nil, append_assoc}
@@ -7,17 +7,16 @@ use Rattle.h2_frames.specs.declared.frame.Frame.{Frame}
 use Rattle.h2_frames.specs.declared.frame.Frame.TheVariants.{WindowUpdate}
 use Rattle.h2_frames.specs.Layout.{frame_text}
 use Rattle.hpack_tables.specs.Writing.{Encoder}
-use Rattle.h2_exchange.specs.declared.limits.H2Limits.{H2Limits}
 use Rattle.h2_exchange.specs.declared.role.Role.{Role}
 use Rattle.h2_exchange.specs.declared.role.Role.TheVariants.{Client, Server}
 use Rattle.h2_exchange.specs.Events.{Event}
 use Rattle.h2_exchange.specs.Exchange.{Step, Received, Sent, received, sent, some_step}
-use Rattle.h2_exchange.specs.Frames.{stream_of, is_headers, is_window_update, increment_of}
+use Rattle.h2_exchange.specs.Frames.{stream_of, is_headers}
 use Rattle.h2_exchange.specs.Sending.{credit_text, update_text}
 use Rattle.h2_exchange.specs.Streams.{begins, highest, is_begun, is_live, is_odd, is_over}
 use Rattle.h2_exchange.specs.Windows.{granted_on}
 use Rattle.h2_exchange.proofs.Steps.{sent_push, window_sums_grow}
-use Rattle.h2_streams.specs.Set.{Set, at, credited, credited_on, owed_in}
+use Rattle.h2_streams.specs.Set.{at, credited, credited_on, owed_in}
 use Rattle.h2_streams.proofs.Credits.{credits_all, live_same, odd_not_zero}
 use Rattle.h2_streams.proofs.Lists.{eqb_is, isnt, self_eq}
 use Rattle.http_connection.specs.ConnectionTrace.{ConnectionTrace}

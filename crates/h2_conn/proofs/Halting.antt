@@ -1,5 +1,5 @@
 -- A received frame that ends the connection, or for which no memory is left.
-use Rattle.std.proofs.Common.{◌≡◌, ℕ, ◌+◌, ◌≤◌, ◌<◌, ◌/◌, ◌%◌, ◌^◌, Bool, true, false, inl, inr, List, [], ◌∷◌, ◌++◌, length, take, drop, Option, Some, None, refl, sym, ap, subst, ◌∙◌, arith}
+use Rattle.std.proofs.Common.{◌≡◌, ℕ, ◌≤◌, ◌/◌, ◌%◌, ◌^◌, inl, List, [], ◌∷◌, ◌++◌, length, take, drop, Option, Some, None, refl, sym, ap, subst, ◌∙◌, arith}
 use Rattle.std.specs.Prelude.{is_some, if◌then◌else◌}
 use Rattle.std.specs.Option.{option_or}
 use Rattle.std.specs.List.{list_any}
@@ -8,14 +8,12 @@ use Rattle.std.proofs.lemmas.List.{append-nil, take-take}
 use Rattle.std.proofs.lemmas.Nat.{from_be_bytes-to_be_bytes_4}
 use Rattle.h2_frames.specs.declared.frame.Frame.{Frame}
 use Rattle.h2_frames.specs.Layout.{body_of, size_of, said_length, BeginsWithFrame, IsFrame}
-use Rattle.h2_frames.specs.Stream.{MatchesPreface, Reads, HasAnother}
+use Rattle.h2_frames.specs.Stream.{Reads, HasAnother}
 use Rattle.h2_frames.proofs.Streams.{front_of, IsPrefix as StandsIn}
-use Rattle.h2_exchange.specs.declared.limits.H2Limits.{H2Limits}
-use Rattle.h2_exchange.specs.declared.role.Role.{Role}
 use Rattle.h2_exchange.specs.Compression.{limited_by}
 use Rattle.h2_exchange.specs.Content.{Outcome}
-use Rattle.h2_exchange.specs.Events.{Event, events_of}
-use Rattle.h2_exchange.specs.Exchange.{Step, Received, Sent, received, sent, collect, front_before, first_given}
+use Rattle.h2_exchange.specs.Events.{events_of}
+use Rattle.h2_exchange.specs.Exchange.{Step, Received, received, collect, front_before}
 use Rattle.h2_exchange.specs.Frames.{is_goaway}
 use Rattle.h2_exchange.specs.Order.{peer_preface}
 use Rattle.h2_exchange.specs.Outcomes.{AreKnown}
@@ -30,8 +28,8 @@ use Rattle.http_connection.specs.ConnectionTrace.{ConnectionTrace, stop_in}
 use Rattle.h2_conn.specs.declared.heard.End.{End}
 use Rattle.h2_conn.specs.Hears.{Ending, Starved, stop_by as stop_of_end}
 use Rattle.h2_conn.specs.State.{State}
-use Rattle.h2_conn.specs.Standing.{Going, Kept, Stands, ends_of}
-use Rattle.h2_conn.specs.Steps.{Halted, Waiting}
+use Rattle.h2_conn.specs.Standing.{Going, Kept, ends_of}
+use Rattle.h2_conn.specs.Steps.{Waiting}
 use Rattle.h2_conn.specs.Watching.{stop_by}
 use Rattle.h2_conn.proofs.Further.{stop_known, events_known, resets_known}
 use Rattle.h2_conn.proofs.Hearing.{heard, hears_kept}

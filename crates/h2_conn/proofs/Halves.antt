@@ -1,10 +1,9 @@
 -- A connection that sends one frame of a header block.
-use Rattle.std.proofs.Common.{◌≡◌, ℕ, ◌+◌, ◌<◌, ◌≤◌, Bool, true, false, ◌||◌, ◌&&◌, List, [], ◌∷◌, ◌++◌, length, Option, Some, None, refl, sym, ap, subst, ◌∙◌, arith, All}
-use Rattle.std.specs.Prelude.{not, is_some, option_map, ◌==◌, if◌then◌else◌}
-use Rattle.std.specs.List.{list_any}
-use Rattle.std.proofs.lemmas.List.{append-nil, append_assoc}
+use Rattle.std.proofs.Common.{◌≡◌, ℕ, ◌+◌, ◌<◌, ◌≤◌, Bool, true, false, ◌||◌, ◌&&◌, List, [], ◌∷◌, ◌++◌, length, Option, None, refl, sym, ap, subst, ◌∙◌, arith, All}
+use Rattle.std.specs.Prelude.{not, option_map, if◌then◌else◌}
+use Rattle.std.proofs.lemmas.List.{append_assoc}
 use Rattle.h2_frames.specs.declared.frame.Frame.{Frame}
-use Rattle.h2_frames.specs.declared.frame.Frame.TheVariants.{Content, Headers, Continuation}
+use Rattle.h2_frames.specs.declared.frame.Frame.TheVariants.{Headers, Continuation}
 use Rattle.h2_frames.specs.declared.frame.FrameBody.{FrameBody}
 use Rattle.h2_frames.specs.Layout.{frame_text}
 use Rattle.hpack_tables.specs.declared.field.Field.{Field}
@@ -12,13 +11,12 @@ use Rattle.hpack_tables.specs.Writing.{Encoder, fresh}
 use Rattle.h2_exchange.specs.declared.limits.H2Limits.{H2Limits}
 use Rattle.h2_exchange.specs.declared.limits.CalmCause.TheVariants.{Resets}
 use Rattle.h2_exchange.specs.declared.role.Role.{Role}
-use Rattle.h2_exchange.specs.declared.role.Role.TheVariants.{Client, Server}
 use Rattle.h2_exchange.specs.Blocks.{Block, blocks, open_block, left_open}
 use Rattle.h2_exchange.specs.Compression.{AreWritten, IsWritable}
 use Rattle.h2_exchange.specs.Content.{Outcome}
 use Rattle.h2_exchange.specs.Events.{Event}
-use Rattle.h2_exchange.specs.Exchange.{Step, Received, Sent, received, sent, sent_text}
-use Rattle.h2_exchange.specs.Frames.{is_data, is_headers, is_continuation, is_rst_stream, is_window_update, is_goaway, stream_of}
+use Rattle.h2_exchange.specs.Exchange.{Step, Sent, received, sent, sent_text}
+use Rattle.h2_exchange.specs.Frames.{is_data, is_rst_stream, is_window_update, is_goaway, stream_of}
 use Rattle.h2_exchange.specs.Order.{peer_preface, own_preface, end_of}
 use Rattle.h2_exchange.specs.Outcomes.{AreKnown, BeginWithFrames, ReadFirst}
 use Rattle.h2_exchange.specs.Rules.{breaks_block_on}
@@ -32,7 +30,7 @@ use Rattle.h2_streams.specs.Set.{Set}
 use Rattle.h2_streams.specs.Stands as streams
 use Rattle.http_connection.specs.ConnectionTrace.{ConnectionTrace, ArePlaced, style_of, events_in}
 use Rattle.h2_conn.specs.State.{State}
-use Rattle.h2_conn.specs.Standing.{Kept, Going, Stands, HasCredit, ends_of}
+use Rattle.h2_conn.specs.Standing.{Going, Stands, HasCredit, ends_of}
 use Rattle.h2_conn.specs.Watching.{Watch, IsWatched, IsAsked, asked_on, ended_if, stop_by}
 use Rattle.h2_conn.proofs.Lives.{going_push, grants_none}
 use Rattle.h2_conn.proofs.Sounds.{is_ack, no_ack, one_more, enough_push, text_push}

@@ -1,18 +1,14 @@
 -- A part of a header block that is received: the block, the limits, streams that begin and credit.
-use Rattle.std.proofs.Common.{◌≡◌, ℕ, zero, suc, ◌+◌, ◌-◌, ◌<◌, ◌≤◌, min, Bool, true, false, ◌||◌, ◌&&◌, List, [], ◌∷◌, ◌++◌, length, Option, Some, None, Result, Ok, Err, refl, sym, ap, subst, ◌∙◌, arith}
-use Rattle.std.specs.Prelude.{not, is_some, nat_lt, option_map, option_to_list, slice_get, ◌==◌, if◌then◌else◌}
-use Rattle.std.specs.List.{list_any}
+use Rattle.std.proofs.Common.{◌≡◌, ℕ, zero, suc, ◌+◌, ◌-◌, ◌<◌, ◌≤◌, min, Bool, true, false, ◌||◌, ◌&&◌, List, [], ◌∷◌, ◌++◌, length, Option, Some, None, Ok, Err, refl, sym, ap, subst, ◌∙◌, arith}
+use Rattle.std.specs.Prelude.{not, nat_lt, option_map, slice_get, ◌==◌, if◌then◌else◌}
 use Rattle.std.proofs.lemmas.Bool.Decides.{nat_tests}
-use Rattle.std.proofs.lemmas.List.{append-nil}
 use Rattle.std.proofs.lemmas.List.Folds.{list_any-append}
 use Rattle.h2_frames.specs.declared.frame.Frame.{Frame}
 use Rattle.h2_frames.specs.declared.frame.Frame.TheVariants as kind
-use Rattle.hpack_tables.specs.Decoder.{Decoder}
 use Rattle.hpack_tables.specs.Reading as reading
 use Rattle.hpack_tables.specs.Reading.{BlockAt}
 use Rattle.hpack_tables.specs.declared.fault.HpackFault.{HpackFault}
 use Rattle.hpack_tables.specs.declared.field.Field.{Field}
-use Rattle.h2_exchange.specs.declared.limits.CalmCause.{CalmCause}
 use Rattle.h2_exchange.specs.declared.limits.CalmCause.TheVariants.{HeaderBytes, HeaderFrames}
 use Rattle.h2_exchange.specs.declared.limits.H2Limits.{H2Limits}
 use Rattle.h2_exchange.specs.declared.role.Role.{Role}
@@ -23,9 +19,9 @@ use Rattle.h2_exchange.specs.Exchange.{Step, Received, received, sent, first_bro
 use Rattle.h2_exchange.specs.Frames.{stream_of, is_data, is_goaway, is_headers, is_continuation, is_ping, is_rst_stream, is_settings, counted}
 use Rattle.h2_exchange.specs.Outcomes.{ReadFirst}
 use Rattle.h2_exchange.specs.Rules.{breaks_block_on}
-use Rattle.h2_exchange.specs.Stops.{Stop, Calm, block_stop, cuts_request, ends_call, has_request, request_bytes}
+use Rattle.h2_exchange.specs.Stops.{Calm, block_stop, cuts_request, ends_call, has_request, request_bytes}
 use Rattle.h2_exchange.specs.Streams.{begins, has_head, has_rst_stream, highest, is_begun, is_ended_by, is_live, is_odd, is_over, of_client}
-use Rattle.h2_exchange.specs.Windows.{granted_on, spent, spent_on}
+use Rattle.h2_exchange.specs.Windows.{granted_on, spent_on}
 use Rattle.h2_exchange.proofs.Steps.{begun_push, over_stays, received_push, sent_received}
 use Rattle.h2_streams.specs.declared.live.Stream.{Stream}
 use Rattle.h2_streams.specs.Set.{Set}
@@ -33,10 +29,10 @@ use Rattle.h2_streams.specs.Stands as streams
 use Rattle.h2_streams.proofs.Lists.{eqb_is}
 use Rattle.h2_conn.specs.declared.asked.Asked.{Asked}
 use Rattle.h2_conn.specs.HeaderParts.{block_in, limit_of}
-use Rattle.h2_conn.specs.Standing.{AreAllRead, HasCredit, IsWithinCredit}
+use Rattle.h2_conn.specs.Standing.{AreAllRead, HasCredit}
 use Rattle.h2_conn.specs.Watching.{IsAsked, IsWatched, Watch, asked_on}
 use Rattle.h2_conn.proofs.LooseHeard.{granted_behind, spent_behind, spent_on_behind}
-use Rattle.h2_conn.proofs.Watched.{count_push, cuts, ends, quiet_count, unbegun}
+use Rattle.h2_conn.proofs.Watched.{count_push, ends, quiet_count, unbegun}
 
 -- ---- its kind
 

@@ -1,8 +1,7 @@
 -- A connection that receives a frame that stops nothing.
-use Rattle.std.proofs.Common.{◌≡◌, ℕ, ◌+◌, ◌<◌, ◌≤◌, Bool, true, false, List, [], ◌∷◌, ◌++◌, length, Option, Some, None, refl, sym, ap, subst, ◌∙◌, arith}
-use Rattle.std.specs.Prelude.{Result, Ok, Err}
+use Rattle.std.proofs.Common.{◌≡◌, ℕ, ◌<◌, ◌≤◌, false, List, [], ◌∷◌, ◌++◌, length, Option, None, refl, sym, ap, subst, ◌∙◌, arith}
+use Rattle.std.specs.Prelude.{Ok, Err}
 use Rattle.std.specs.List.{list_any, flat_map}
-use Rattle.std.specs.Option.{option_or}
 use Rattle.std.proofs.lemmas.List.{append-nil, append_assoc}
 use Rattle.std.proofs.lemmas.List.Concat.{flat_map-append}
 use Rattle.h2_frames.specs.declared.frame.Frame.{Frame}
@@ -20,14 +19,14 @@ use Rattle.h2_exchange.specs.Blocks.{Block, blocks, open_block}
 use Rattle.h2_exchange.specs.Compression.{limited_by}
 use Rattle.h2_exchange.specs.Content.{Outcome}
 use Rattle.h2_exchange.specs.Events.{Event, events_of}
-use Rattle.h2_exchange.specs.Exchange.{Step, Received, Sent, received, sent, sent_text}
+use Rattle.h2_exchange.specs.Exchange.{Step, Received, received, sent, sent_text}
 use Rattle.h2_exchange.specs.Frames.{is_goaway}
 use Rattle.h2_exchange.specs.Order.{peer_preface, own_preface, end_of}
 use Rattle.h2_exchange.specs.Outcomes.{AreKnown, AreEnough, ReadFirst, BeginWithFrames}
 use Rattle.h2_exchange.specs.Sending.{acks_in, acks_for, last_begun, IsPrefix}
-use Rattle.h2_exchange.specs.Stops.{Stop, stop_at, stop_of, before_stop, events}
+use Rattle.h2_exchange.specs.Stops.{stop_at, stop_of, events}
 use Rattle.h2_exchange.proofs.Heads.{all_enough}
-use Rattle.h2_exchange.proofs.Looking.{front_whole, given_more}
+use Rattle.h2_exchange.proofs.Looking.{front_whole}
 use Rattle.h2_exchange.proofs.Staying.{events_go_on}
 use Rattle.h2_exchange.proofs.Steps.{received_push, sent_received}
 use Rattle.h2_streams.specs.Set.{Set}

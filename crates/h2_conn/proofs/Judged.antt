@@ -25,7 +25,6 @@ use Rattle.h2_streams.specs.Stands as streams
 use Rattle.http_connection.specs.ConnectionTrace.{ConnectionTrace}
 use Rattle.h2_conn.specs.Hears.{Sound, Faulty, SeenSo}
 use Rattle.h2_conn.specs.State.{State}
-use Rattle.h2_conn.specs.Standing.{Stands}
 use Rattle.h2_conn.specs.Steps.{Waiting}
 
 both_none : (id : ℕ) (e g : Option ErrorCode) (r : Result (Unit {0}) StreamFault) → r ≡ hear.answer_by id e g → r ≡ Ok tt → (e ≡ None) × (g ≡ None)

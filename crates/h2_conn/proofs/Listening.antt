@@ -1,26 +1,25 @@
 -- What a connection says behind the frames that it took.
-use Rattle.std.proofs.Common.{◌≡◌, ℕ, Bool, true, false, ◌⊎◌, inl, inr, List, [], ◌∷◌, ◌++◌, Option, Some, None, refl, sym, ap, subst, ◌∙◌}
+use Rattle.std.proofs.Common.{◌≡◌, ℕ, Bool, false, ◌⊎◌, inl, inr, List, [], Option, Some, None, refl, sym, ap, subst, ◌∙◌}
 use Rattle.std.proofs.lemmas.List.{append-nil}
-use Rattle.h2_exchange.specs.Exchange.{received, sent}
+use Rattle.h2_exchange.specs.Exchange.{sent}
 use Rattle.h2_exchange.specs.Events.{Event}
 use Rattle.h2_exchange.specs.Sending.{acks_in}
 use Rattle.h2_exchange.specs.Stops.{stop_of}
-use Rattle.h2_exchange.specs.Outcomes.{AreEnough}
 use Rattle.http_connection.specs.declared.event.H2Event.{H2Event}
 use Rattle.http_connection.specs.declared.event.H2Event.TheVariants as says
-use Rattle.http_connection.specs.Answers.{Answers, GivesEvents, NeedsMore, Stops, RunsOutOfMemory}
-use Rattle.http_connection.specs.ConnectionTrace.{ConnectionTrace, Refusal, Stopped, NoMemory}
+use Rattle.http_connection.specs.Answers.{Answers, GivesEvents, NeedsMore, Stops}
+use Rattle.http_connection.specs.ConnectionTrace.{ConnectionTrace, NoMemory}
 use Rattle.h2_conn.specs.declared.conn.Why.{Why}
 use Rattle.h2_conn.specs.declared.conn.Why.TheVariants as was
 use Rattle.h2_conn.specs.declared.heard.End.{End}
 use Rattle.h2_conn.specs.declared.heard.End.TheVariants as by
 use Rattle.h2_conn.specs.Hears.{Taken, Quiet, Ending, Idle, Starved, event_of_refusal, with_last, stop_by as stop_of_end}
 use Rattle.h2_conn.specs.State.{State, refusal_by}
-use Rattle.h2_conn.specs.Standing.{Stands, ends_of, HasCredit}
+use Rattle.h2_conn.specs.Standing.{Stands, HasCredit}
 use Rattle.h2_conn.specs.Steps.{Halted, with_goaway}
 use Rattle.h2_conn.specs.Watching.{stop_by}
 use Rattle.h2_conn.proofs.Chained.{goes_join}
-use Rattle.h2_conn.proofs.Reading.{a, stays}
+use Rattle.h2_conn.proofs.Reading.{a}
 use Rattle.h2_conn.proofs.Stopping.{halts, runs_out}
 
 -- what is said is why it ends, or that no memory is left

@@ -2,7 +2,7 @@
 use Rattle.std.proofs.Common.{◌≡◌, ℕ, ◌+◌, Bool, true, false, ◌||◌, ◌&&◌, List, [], ◌∷◌, ◌++◌, Option, Some, None, refl, sym, ap, subst, ◌∙◌, arith}
 use Rattle.std.specs.Prelude.{not, is_some, ◌==◌, if◌then◌else◌}
 use Rattle.std.specs.List.{list_any}
-use Rattle.std.proofs.lemmas.List.{append-nil, append_assoc}
+use Rattle.std.proofs.lemmas.List.{append-nil}
 use Rattle.std.proofs.lemmas.List.Folds.{list_any-append}
 use Rattle.h2_frames.specs.declared.frame.Frame.{Frame}
 use Rattle.h2_frames.specs.Stream as bytes
@@ -13,16 +13,16 @@ use Rattle.h2_exchange.specs.declared.role.Role.TheVariants.{Client, Server}
 use Rattle.h2_exchange.specs.Blocks.{blocks, open_block}
 use Rattle.h2_exchange.specs.Content.{Outcome}
 use Rattle.h2_exchange.specs.Events.{Event, events_of}
-use Rattle.h2_exchange.specs.Exchange.{Step, Received, Sent, received, sent, collect, front_before, first_given}
+use Rattle.h2_exchange.specs.Exchange.{Step, Sent, received, sent, collect}
 use Rattle.h2_exchange.specs.Frames.{stream_of, is_goaway, is_window_update, increment_of}
 use Rattle.h2_exchange.specs.Order.{peer_preface}
-use Rattle.h2_exchange.specs.Sending.{acks_in, acks_for, last_begun, IsCredited}
+use Rattle.h2_exchange.specs.Sending.{acks_in, acks_for, last_begun}
 use Rattle.h2_exchange.specs.Stops.{Stop, stop_at, stop_of, before_stop, events}
 use Rattle.h2_exchange.specs.Streams.{begins, is_begun, is_over, is_live, highest}
 use Rattle.h2_exchange.specs.Windows.{granted_on, spent_on, spent}
 use Rattle.h2_exchange.proofs.Looking.{front_stays, front_goes_on, front_whole}
 use Rattle.h2_exchange.proofs.Staying.{events_stopped, events_more}
-use Rattle.h2_exchange.proofs.Steps.{received_more, received_sent, sent_push, begun_push, over_stays, window_sums_grow}
+use Rattle.h2_exchange.proofs.Steps.{received_sent, sent_push, begun_push, over_stays, window_sums_grow}
 use Rattle.h2_streams.specs.Set.{Set}
 use Rattle.h2_streams.specs.Stands as streams
 use Rattle.http_connection.specs.ConnectionTrace.{ConnectionTrace}

@@ -1,6 +1,6 @@
 -- A received frame that is no part of a header block: streams, counts and bytes of requests.
-use Rattle.std.proofs.Common.{◌≡◌, ℕ, ◌+◌, ◌<◌, ◌≤◌, ◌^◌, Bool, true, false, ◌||◌, ◌&&◌, List, [], ◌∷◌, ◌++◌, length, map, Option, Some, None, refl, sym, ap, subst, ◌∙◌, arith}
-use Rattle.std.specs.Prelude.{not, is_some, nat_lt, option_map, ◌==◌, if◌then◌else◌}
+use Rattle.std.proofs.Common.{◌≡◌, ℕ, ◌+◌, ◌≤◌, Bool, true, false, ◌||◌, ◌&&◌, List, [], ◌∷◌, ◌++◌, map, Option, Some, None, refl, sym, ap, subst, ◌∙◌, arith}
+use Rattle.std.specs.Prelude.{not, nat_lt, ◌==◌, if◌then◌else◌}
 use Rattle.std.specs.Option.{option_or}
 use Rattle.std.specs.List.{flat_map}
 use Rattle.std.proofs.lemmas.List.{append-nil, append_assoc}
@@ -13,21 +13,19 @@ use Rattle.h2_exchange.specs.declared.role.Role.{Role}
 use Rattle.h2_exchange.specs.declared.role.Role.TheVariants.{Client, Server}
 use Rattle.h2_exchange.specs.Blocks.{data_of}
 use Rattle.h2_exchange.specs.Content.{Outcome}
-use Rattle.h2_exchange.specs.Events.{Event, Data, Ended, Reset, all_events, bytes_of, bytes_on, data_events, events_of}
-use Rattle.h2_exchange.specs.Exchange.{Step, Received, Sent, received, sent}
-use Rattle.h2_exchange.specs.Frames.{stream_of, is_data, is_headers, is_rst_stream, is_continuation, is_goaway, is_settings, is_ping, counted}
+use Rattle.h2_exchange.specs.Events.{Event, Data, Ended, all_events, bytes_of, bytes_on, events_of}
+use Rattle.h2_exchange.specs.Exchange.{Step, Received, Sent}
+use Rattle.h2_exchange.specs.Frames.{stream_of, is_data, is_headers, is_rst_stream, is_settings, is_ping, counted}
 use Rattle.h2_exchange.specs.Sending.{ResetsErrors}
 use Rattle.h2_exchange.specs.Stops.{Calm, Stop, cuts_request, ends_call, frame_stop, request_bytes, stop_at}
 use Rattle.h2_exchange.specs.Streams.{begins, is_begun, is_live, is_over}
 use Rattle.h2_exchange.proofs.Looking.{collect_push, some_more}
 use Rattle.h2_exchange.proofs.Steps.{begun_push, over_stays, sent_received}
-use Rattle.h2_conn.specs.Watching.{Watch, IsWatched, IsAsked, asked_on, over_on, without}
-use Rattle.h2_conn.specs.declared.asked.Asked.{Asked}
+use Rattle.h2_conn.specs.Watching.{Watch, IsWatched, IsAsked, asked_on, over_on}
 use Rattle.h2_conn.proofs.NextMessage.{asked_apart}
 use Rattle.h2_conn.proofs.Plain.{IsLoose}
 use Rattle.h2_conn.proofs.Splits.{resets_push}
 use Rattle.h2_conn.proofs.Watched.{cuts, ends, by_counts, quiet_count, unbegun}
-use Rattle.h2_streams.proofs.Lists.{by_number}
 
 -- ---- kinds of frames
 

@@ -10,12 +10,12 @@ use Rattle.h2_exchange.specs.declared.role.Role.{Role}
 use Rattle.h2_exchange.specs.declared.role.Role.TheVariants.{Client, Server}
 use Rattle.h2_exchange.specs.Blocks.{Block, completed}
 use Rattle.h2_exchange.specs.Content.{Outcome, stream_error}
-use Rattle.h2_exchange.specs.Events.{Event, Reset, events_by, events_of, sound_events}
-use Rattle.h2_exchange.specs.Exchange.{Step, Received, Sent, received, sent}
+use Rattle.h2_exchange.specs.Events.{Reset, events_by, sound_events}
+use Rattle.h2_exchange.specs.Exchange.{Step, Received, received}
 use Rattle.h2_exchange.specs.Frames.{stream_of, is_headers, is_continuation, is_rst_stream, is_settings, is_ping}
-use Rattle.h2_exchange.specs.StreamErrors.{completed_error, live_error, stream_error_of}
-use Rattle.h2_exchange.specs.Stops.{cuts_request, ends_call, has_request, is_end, request_bytes}
-use Rattle.h2_exchange.specs.Streams.{is_begun, is_live, is_live_at}
+use Rattle.h2_exchange.specs.StreamErrors.{completed_error, live_error}
+use Rattle.h2_exchange.specs.Stops.{ends_call, has_request, is_end, request_bytes}
+use Rattle.h2_exchange.specs.Streams.{is_live, is_live_at}
 use Rattle.h2_streams.specs.declared.set.receive.SeenStream.{SeenStream}
 use Rattle.http_connection.specs.ConnectionTrace.{ConnectionTrace}
 use Rattle.h2_conn.specs.Credit.{with_credit}

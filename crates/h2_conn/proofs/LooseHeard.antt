@@ -1,22 +1,18 @@
 -- A frame that is no part of a header block is received and breaks no rule of the connection.
-use Rattle.std.proofs.Common.{◌≡◌, ℕ, ◌+◌, ◌-◌, ◌<◌, ◌≤◌, ◌^◌, Bool, true, false, ◌||◌, ◌&&◌, List, [], ◌∷◌, ◌++◌, length, map, Option, Some, None, refl, sym, ap, subst, ◌∙◌, arith}
+use Rattle.std.proofs.Common.{◌≡◌, ℕ, ◌+◌, ◌-◌, ◌≤◌, Bool, true, false, List, [], ◌∷◌, ◌++◌, map, Option, Some, None, refl, sym, ap, subst, ◌∙◌, arith}
 use Rattle.std.specs.Prelude.{◌==◌, if◌then◌else◌}
 use Rattle.std.proofs.lemmas.List.{append-nil, append_assoc}
-use Rattle.h2_frames.specs.declared.code.ErrorCode.{ErrorCode}
 use Rattle.h2_frames.specs.declared.frame.Frame.{Frame}
-use Rattle.h2_frames.specs.Layout.{body_of}
-use Rattle.hpack_tables.specs.Writing.{Encoder}
 use Rattle.h2_exchange.specs.declared.limits.H2Limits.{H2Limits}
 use Rattle.h2_exchange.specs.declared.role.Role.{Role}
 use Rattle.h2_exchange.specs.Blocks.{Block, blocks, open_block}
 use Rattle.h2_exchange.specs.Content.{Outcome, is_malformed, outcome_for, stream_error}
-use Rattle.h2_exchange.specs.Events.{Event}
 use Rattle.h2_exchange.specs.Exchange.{Step, Received, Sent, received, sent}
 use Rattle.h2_exchange.specs.Frames.{stream_of, is_headers, counted}
 use Rattle.h2_exchange.specs.Rules.{frame_error}
 use Rattle.h2_exchange.specs.Sending.{credit_text, IsCredited}
 use Rattle.h2_exchange.specs.StreamErrors.{stream_error_of}
-use Rattle.h2_exchange.specs.Stops.{Stop, frame_stop}
+use Rattle.h2_exchange.specs.Stops.{frame_stop}
 use Rattle.h2_exchange.specs.Streams.{is_live}
 use Rattle.h2_exchange.specs.Windows.{granted_on, spent, spent_on}
 use Rattle.h2_exchange.proofs.Steps.{received_push, received_sent, sent_received, window_sums_grow}
@@ -29,7 +25,7 @@ use Rattle.h2_streams.proofs.Standing.{at_is}
 use Rattle.http_connection.specs.ConnectionTrace.{ConnectionTrace}
 use Rattle.h2_conn.specs.Credit.{owed_by}
 use Rattle.h2_conn.specs.State.{State}
-use Rattle.h2_conn.specs.Standing.{Decodes, Going, HasCredit, IsWithinCredit}
+use Rattle.h2_conn.specs.Standing.{Decodes, HasCredit, IsWithinCredit}
 use Rattle.h2_conn.specs.Steps.{Waiting}
 use Rattle.h2_conn.proofs.Controls.{outside}
 use Rattle.h2_conn.proofs.Granting.{Grants, sym_eq}

@@ -1,5 +1,5 @@
 -- A connection that has taken a frame, its streams apart: the joint step of a frame that is a stream error and its reset.
-use Rattle.std.proofs.Common.{◌≡◌, ℕ, ◌+◌, Bool, true, false, ◌||◌, List, [], ◌∷◌, ◌++◌, Option, Some, None, refl, sym, ap, subst, ◌∙◌}
+use Rattle.std.proofs.Common.{◌≡◌, ℕ, Bool, true, false, ◌||◌, List, [], ◌∷◌, ◌++◌, Option, None, refl, sym, ap, subst, ◌∙◌}
 use Rattle.std.specs.List.{list_any}
 use Rattle.std.proofs.lemmas.List.{append-nil, append_assoc}
 use Rattle.std.proofs.lemmas.List.Folds.{list_any-append}
@@ -12,7 +12,7 @@ use Rattle.hpack_tables.specs.Writing.{Encoder}
 use Rattle.h2_exchange.specs.Blocks.{Block, blocks, open_block}
 use Rattle.h2_exchange.specs.Content.{Outcome}
 use Rattle.h2_exchange.specs.Events.{Event, events_of}
-use Rattle.h2_exchange.specs.Exchange.{Step, Received, Sent, received, sent}
+use Rattle.h2_exchange.specs.Exchange.{Received, Sent, received, sent}
 use Rattle.h2_exchange.specs.Frames.{is_goaway}
 use Rattle.h2_exchange.specs.Order.{peer_preface}
 use Rattle.h2_exchange.specs.Outcomes.{AreEnough}

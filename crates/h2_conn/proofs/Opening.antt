@@ -1,5 +1,5 @@
 -- Heads and trailers on an open stream, and streams that are begun.
-use Rattle.std.proofs.Common.{◌≡◌, ℕ, zero, suc, ◌+◌, ◌-◌, ◌*◌, ◌<◌, ◌≤◌, ◌^◌, max, Bool, true, false, ◌||◌, ◌&&◌, List, [], ◌∷◌, ◌++◌, length, take, sum_by, Option, Some, None, refl, sym, ap, subst, ◌∙◌, arith, inl, inr, ◌⊎◌}
+use Rattle.std.proofs.Common.{◌≡◌, ℕ, zero, suc, ◌+◌, ◌-◌, ◌*◌, ◌<◌, ◌≤◌, ◌^◌, Bool, true, false, ◌||◌, ◌&&◌, List, [], ◌∷◌, ◌++◌, length, take, sum_by, Option, Some, None, refl, sym, ap, subst, ◌∙◌, arith, inl, inr, ◌⊎◌}
 use Rattle.std.specs.Prelude.{not, is_some, nat_lt, fold, Result, Ok, Err, OnOk, IfOk, ◌==◌, if◌then◌else◌}
 use Rattle.std.specs.List.{list_any}
 use Rattle.std.proofs.lemmas.Bool.{le-ltb}
@@ -7,12 +7,11 @@ use Rattle.std.proofs.lemmas.Bool.Decides.{nat_tests}
 use Rattle.h2_frames.specs.declared.frame.Frame.{Frame}
 use Rattle.h2_frames.specs.declared.frame.Frame.TheVariants.{Headers}
 use Rattle.h2_frames.specs.declared.frame.FrameBody.{FrameBody}
-use Rattle.hpack_tables.specs.declared.encoder.Style.{Style}
 use Rattle.hpack_tables.specs.declared.encoder.Style.TheVariants.{Plain}
 use Rattle.hpack_tables.specs.declared.field.Field.{Field}
 use Rattle.hpack_tables.specs.EntrySizes.{size_of, fitting}
 use Rattle.hpack_tables.specs.Laws.{AreBytes}
-use Rattle.hpack_tables.specs.Writing.{Encoder, Writes, fresh, limited}
+use Rattle.hpack_tables.specs.Writing.{Encoder, fresh, limited}
 use Rattle.h2_exchange.specs.declared.fault.SendFault.{SendFault}
 use Rattle.h2_exchange.specs.declared.fault.SendFault.TheVariants.{NotOpen, IdsSpent, NoMemory}
 use Rattle.h2_exchange.specs.declared.role.Role.{Role}
@@ -33,7 +32,6 @@ use Rattle.h2_streams.proofs.SentBlocks.{header_frames_change_nothing, finishes}
 use Rattle.h2_streams.proofs.Standing.{open_says}
 use Rattle.http_connection.specs.ConnectionTrace.{ConnectionTrace, Refusal, is_alive, style_of, wrote}
 use Rattle.http_connection.specs.Sends.{BeginsWhere, CarryBlock, SendsWhere, text_room, last_flag}
-use Rattle.http_connection.specs.Sends as conn
 use Rattle.h2_conn.specs.Blocks.{SendsBlock, BeginsBlock, with_block, with_end, closed_on, ends_by, more_frames}
 use Rattle.h2_conn.specs.State.{State}
 use Rattle.h2_conn.specs.Standing.{Stands, HasCredit}

@@ -1,5 +1,5 @@
 -- What waits to be sent.
-use Rattle.std.proofs.Common.{◌≡◌, ℕ, ◌≤◌, ◌+◌, List, [], ◌++◌, length, drop, refl, sym, ap, ◌∙◌, arith}
+use Rattle.std.proofs.Common.{◌≡◌, ℕ, ◌≤◌, ◌+◌, List, ◌++◌, length, drop, ap, ◌∙◌}
 use Rattle.std.proofs.lemmas.List.{drop-drop, drop-append-le}
 
 pub added : (start : ℕ) (old new bytes : List ℕ) → new ≡ old ++ bytes → start ≤ length old → drop start new ≡ drop start old ++ bytes

@@ -1,6 +1,6 @@
 -- HEADERS or CONTINUATION that pass a limit, or that do not complete their block.
-use Rattle.std.proofs.Common.{◌≡◌, ℕ, ◌+◌, Bool, true, false, ◌||◌, ◌&&◌, List, [], ◌∷◌, ◌++◌, length, Option, Some, None, refl, sym, ap, subst, ◌∙◌, arith}
-use Rattle.std.specs.Prelude.{not, is_some, nat_lt, option_map, option_to_list, ◌==◌, if◌then◌else◌}
+use Rattle.std.proofs.Common.{◌≡◌, ℕ, ◌+◌, Bool, true, false, ◌||◌, ◌&&◌, List, [], ◌∷◌, ◌++◌, Option, Some, None, refl, sym, ap, subst, ◌∙◌, arith}
+use Rattle.std.specs.Prelude.{not, is_some, option_map, option_to_list, if◌then◌else◌}
 use Rattle.std.specs.Option.{option_or}
 use Rattle.std.proofs.lemmas.List.{append-nil}
 use Rattle.h2_frames.specs.declared.code.ErrorCode.{ErrorCode}
@@ -14,10 +14,10 @@ use Rattle.h2_exchange.specs.declared.role.Role.{Role}
 use Rattle.h2_exchange.specs.declared.role.Role.TheVariants.{Client, Server}
 use Rattle.h2_exchange.specs.Blocks.{Block, block_with, blocks, completed, open_block}
 use Rattle.h2_exchange.specs.Content.{Outcome, is_malformed, outcome_at, outcome_for, stream_error}
-use Rattle.h2_exchange.specs.Events.{Event, block_events, bytes_on, events_by, events_of, sound_events}
-use Rattle.h2_exchange.specs.Exchange.{Step, Received, received, sent}
+use Rattle.h2_exchange.specs.Events.{Event, events_by, events_of, sound_events}
+use Rattle.h2_exchange.specs.Exchange.{Step, Received, received}
 use Rattle.h2_exchange.specs.Frames.{stream_of, has_end_headers, is_continuation, is_headers, is_push_promise}
-use Rattle.h2_exchange.specs.Outcomes.{AreKnown, is_looked_at}
+use Rattle.h2_exchange.specs.Outcomes.{AreKnown}
 use Rattle.h2_exchange.specs.Rules.{breaks_block_on, breaks_length, breaks_number, breaks_padding, breaks_start, frame_error, shape_error}
 use Rattle.h2_exchange.specs.Sending.{ResetsErrors, last_begun}
 use Rattle.h2_exchange.specs.StreamErrors.{stream_error_of}
@@ -32,7 +32,7 @@ use Rattle.h2_conn.specs.declared.heard.End.TheVariants as by
 use Rattle.h2_conn.specs.HeaderParts.{block_in, limit_of, with_part_of}
 use Rattle.h2_conn.specs.Hears.{Ending, Quiet, Sound, Taken}
 use Rattle.h2_conn.specs.State.{State}
-use Rattle.h2_conn.specs.Standing.{Decodes, Going, HasCredit, ends_of}
+use Rattle.h2_conn.specs.Standing.{Decodes, Going, ends_of}
 use Rattle.h2_conn.specs.Steps.{Waiting}
 use Rattle.h2_conn.specs.Watching.{IsWatched}
 use Rattle.h2_conn.proofs.Controls.{first_none, third}

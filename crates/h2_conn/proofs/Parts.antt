@@ -1,6 +1,6 @@
 -- Parts of header blocks.
-use Rattle.std.proofs.Common.{◌≡◌, ℕ, ◌+◌, ◌-◌, ◌≤◌, min, Bool, true, false, List, [], ◌∷◌, ◌++◌, refl, length, length-append, drop, sym, ap, ◌∙◌, arith}
-use Rattle.std.specs.Prelude.{fold, nat_lt, sum_by, take}
+use Rattle.std.proofs.Common.{◌≡◌, ℕ, ◌+◌, ◌-◌, ◌≤◌, min, Bool, true, false, List, [], ◌∷◌, ◌++◌, refl, length, length-append, drop, ap, ◌∙◌, arith}
+use Rattle.std.specs.Prelude.{fold, nat_lt, sum_by}
 use Rattle.h2_frames.specs.declared.frame.Frame.{Frame}
 use Rattle.h2_frames.specs.Layout.{body_of}
 use Rattle.h2_exchange.specs.Blocks.{data_of, unpadded}
@@ -8,7 +8,6 @@ use Rattle.h2_exchange.specs.Frames.{has_padding, payload_of}
 use Rattle.hpack_tables.specs.EntrySizes.{size_of}
 use Rattle.hpack_tables.specs.declared.field.Field.{Field}
 use Rattle.h2_conn.specs.HeaderParts.{grown}
-use Rattle.std.proofs.lemmas.Bool.Decides.{nat_tests}
 use Rattle.std.proofs.lemmas.List.{drop_min, length-take}
 
 pub drop_five : (xs : List ℕ) → drop (min (length xs) 5) xs ≡ drop 5 xs

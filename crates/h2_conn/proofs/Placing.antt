@@ -1,6 +1,6 @@
 -- A connection that sends data.
-use Rattle.std.proofs.Common.{◌≡◌, ℕ, ◌-◌, Bool, true, false, List, Option, Some, None, refl, sym, ap, subst, ◌∙◌, arith}
-use Rattle.std.specs.Prelude.{find, not, ◌==◌}
+use Rattle.std.proofs.Common.{◌≡◌, ℕ, ◌-◌, true, Option, Some, None, refl, ap, ◌∙◌}
+use Rattle.std.specs.Prelude.{◌==◌}
 use Rattle.h2_streams.specs.declared.live.Stream.{Stream}
 use Rattle.h2_streams.specs.Live.{is_stream}
 use Rattle.h2_streams.specs.Set.{Set, at, is_open_in, spent, spent_at}

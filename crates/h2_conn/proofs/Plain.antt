@@ -1,8 +1,8 @@
 -- A received frame that is no DATA, no RST_STREAM and no part of a header block, and breaks no rule.
 use Rattle.std.proofs.Common.{◌≡◌, ℕ, ◌+◌, Bool, true, false, ◌||◌, ◌&&◌, List, [], ◌∷◌, ◌++◌, Option, Some, None, refl, sym, ap, subst, ◌∙◌, arith}
-use Rattle.std.specs.Prelude.{not, is_some, nat_lt, option_map, option_to_list, ◌==◌, if◌then◌else◌}
+use Rattle.std.specs.Prelude.{not, nat_lt, option_map, option_to_list, ◌==◌, if◌then◌else◌}
 use Rattle.std.specs.Option.{option_or}
-use Rattle.std.specs.List.{flat_map, list_any}
+use Rattle.std.specs.List.{flat_map}
 use Rattle.std.proofs.lemmas.Bool.Decides.{nat_tests}
 use Rattle.std.proofs.lemmas.List.{append-nil}
 use Rattle.std.proofs.lemmas.List.Concat.{flat_map-append}
@@ -13,15 +13,14 @@ use Rattle.h2_exchange.specs.declared.limits.CalmCause.TheVariants.{Resets}
 use Rattle.h2_exchange.specs.declared.limits.H2Limits.{H2Limits}
 use Rattle.h2_exchange.specs.declared.role.Role.{Role}
 use Rattle.h2_exchange.specs.declared.role.Role.TheVariants.{Client, Server}
-use Rattle.h2_exchange.specs.Blocks.{Block, block_with, blocks, open_block, left_open, completed, completed_by, data_of}
+use Rattle.h2_exchange.specs.Blocks.{Block, block_with, blocks, open_block, completed, data_of}
 use Rattle.h2_exchange.specs.Content.{Outcome, outcome_at, outcome_for, stream_error}
-use Rattle.h2_exchange.specs.Events.{Event, GoneAway, events_of, events_by, sound_events, block_events, all_events, bytes_on, bytes_of}
-use Rattle.h2_exchange.specs.Exchange.{Step, Received, Sent, received, sent, collect}
-use Rattle.h2_exchange.specs.Frames.{stream_of, is_data, is_headers, is_rst_stream, is_continuation, is_goaway, has_end_stream, has_end_headers, last_stream_of, goaway_code_of, counted}
-use Rattle.h2_exchange.specs.Rules.{frame_error, shape_error, breaks_block_on}
-use Rattle.h2_exchange.specs.Sending.{IsCredited}
-use Rattle.h2_exchange.specs.Stops.{Stop, Calm, Error, stop_at, stop_of, frame_stop, received_stop, block_stop, content_stop, place_behind, count_steps, cuts_request, ends_call, request_bytes, has_request, is_end}
-use Rattle.h2_exchange.specs.Streams.{begins, is_begun, is_live, is_live_at, is_over}
+use Rattle.h2_exchange.specs.Events.{Event, GoneAway, events_of, events_by, sound_events, all_events, bytes_on, bytes_of}
+use Rattle.h2_exchange.specs.Exchange.{Step, Received, received}
+use Rattle.h2_exchange.specs.Frames.{stream_of, is_data, is_headers, is_rst_stream, is_continuation, is_goaway, has_end_headers, last_stream_of, goaway_code_of, counted}
+use Rattle.h2_exchange.specs.Rules.{frame_error, breaks_block_on}
+use Rattle.h2_exchange.specs.Stops.{Stop, Calm, Error, stop_at, frame_stop, block_stop, content_stop, place_behind, cuts_request, ends_call, request_bytes, has_request}
+use Rattle.h2_exchange.specs.Streams.{begins, is_begun, is_live, is_over}
 use Rattle.h2_exchange.specs.Windows.{granted_on, spent_on, spent}
 use Rattle.h2_exchange.proofs.Looking.{collect_push}
 use Rattle.h2_exchange.proofs.Steps.{received_push, sent_received, begun_push, over_stays, window_sums_grow, header_blocks_grow}

@@ -1,7 +1,6 @@
 -- What a connection reads.
-use Rattle.std.proofs.Common.{◌≡◌, ℕ, ◌<◌, ◌≤◌, Bool, true, false, inl, inr, List, [], ◌∷◌, ◌++◌, length, drop, Option, Some, None, refl, sym, ap, subst, ◌∙◌, arith}
-use Rattle.std.specs.Prelude.{sum_by}
-use Rattle.std.proofs.lemmas.List.{append-nil, append_assoc}
+use Rattle.std.proofs.Common.{◌≡◌, ℕ, true, false, inl, inr, List, [], ◌∷◌, ◌++◌, Option, None, refl, sym, ap, subst, ◌∙◌}
+use Rattle.std.proofs.lemmas.List.{append-nil}
 use Rattle.h2_frames.specs.declared.code.ErrorCode.{ErrorCode}
 use Rattle.h2_frames.specs.declared.frame.Frame.{Frame}
 use Rattle.h2_frames.specs.Reader.{Reader}
@@ -12,13 +11,12 @@ use Rattle.h2_exchange.specs.declared.role.Role.{Role}
 use Rattle.h2_exchange.specs.declared.role.Role.TheVariants.{Client, Server}
 use Rattle.h2_exchange.specs.Content.{Outcome}
 use Rattle.h2_exchange.specs.Events.{Event}
-use Rattle.h2_exchange.specs.Exchange.{Step, received, sent}
-use Rattle.h2_exchange.specs.Order.{peer_preface, AreFrames}
+use Rattle.h2_exchange.specs.Exchange.{Step, received}
+use Rattle.h2_exchange.specs.Order.{peer_preface}
 use Rattle.h2_exchange.specs.Sending.{last_begun}
 use Rattle.h2_exchange.specs.Stops.{Stop, Error, Calm, stop_of}
 use Rattle.h2_exchange.specs.Streams.{of_client, highest}
-use Rattle.h2_streams.specs.Stands as streams
-use Rattle.http_connection.specs.Answers.{GivesEvents, Receives, IsCause, ends, after}
+use Rattle.http_connection.specs.Answers.{GivesEvents, IsCause, ends}
 use Rattle.http_connection.specs.ConnectionTrace.{ConnectionTrace}
 use Rattle.h2_conn.specs.declared.heard.End.TheVariants as by
 use Rattle.h2_conn.specs.declared.heard.Heard.{Heard}

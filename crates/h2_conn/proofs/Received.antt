@@ -1,11 +1,9 @@
 -- What a frame that stops nothing leaves, the streams apart, and what is taken with it.
-use Rattle.std.proofs.Common.{◌≡◌, ℕ, ◌+◌, Bool, true, false, ◌||◌, ◌&&◌, List, [], ◌∷◌, ◌++◌, map, Option, Some, None, refl, sym, ap, subst, ◌∙◌}
-use Rattle.std.specs.Prelude.{if◌then◌else◌}
-use Rattle.std.specs.List.{flat_map}
-use Rattle.std.proofs.lemmas.List.{append-nil, append_assoc}
+use Rattle.std.proofs.Common.{◌≡◌, ℕ, ◌+◌, true, false, List, [], ◌∷◌, ◌++◌, map, Option, None, refl, sym, ap, subst, ◌∙◌}
+use Rattle.std.proofs.lemmas.List.{append-nil}
 use Rattle.h2_frames.specs.declared.frame.Frame.{Frame}
 use Rattle.h2_frames.specs.declared.frame.Frame.TheVariants as kind
-use Rattle.h2_frames.specs.Layout.{frame_text, size_of}
+use Rattle.h2_frames.specs.Layout.{size_of}
 use Rattle.h2_frames.specs.Stream.{place_at}
 use Rattle.hpack_tables.specs.Decoder.{Decoder}
 use Rattle.hpack_tables.specs.Writing.{Encoder}
@@ -13,7 +11,7 @@ use Rattle.h2_exchange.specs.Blocks.{Block, blocks, open_block}
 use Rattle.h2_exchange.specs.Compression.{limited_by}
 use Rattle.h2_exchange.specs.Content.{Outcome}
 use Rattle.h2_exchange.specs.Events.{Event, events_of}
-use Rattle.h2_exchange.specs.Exchange.{Step, Received, Sent, received, sent}
+use Rattle.h2_exchange.specs.Exchange.{Step, Received, Sent, received}
 use Rattle.h2_exchange.specs.Frames.{is_ping, is_settings}
 use Rattle.h2_exchange.specs.Order.{peer_preface}
 use Rattle.h2_exchange.specs.Sending.{ack_for, ResetsErrors}

@@ -1,6 +1,6 @@
 -- Credit that was held back is released.
-use Rattle.std.proofs.Common.{◌≡◌, ℕ, zero, suc, ◌+◌, ◌-◌, ◌<◌, ◌≤◌, ◌^◌, Bool, true, false, ◌||◌, ◌&&◌, List, [], ◌∷◌, ◌++◌, length, map, Option, Some, None, refl, sym, ap, subst, ◌∙◌, arith, All, inl, inr, ◌⊎◌}
-use Rattle.std.specs.Prelude.{not, is_some, filter, option_map, slice_get, Result, Ok, Err, OnOk, ◌==◌, if◌then◌else◌}
+use Rattle.std.proofs.Common.{◌≡◌, ℕ, zero, suc, ◌+◌, ◌-◌, ◌<◌, ◌≤◌, ◌^◌, Bool, true, false, ◌||◌, ◌&&◌, List, [], ◌∷◌, ◌++◌, length, map, Option, Some, None, refl, sym, ap, subst, ◌∙◌, arith, inl, inr, ◌⊎◌}
+use Rattle.std.specs.Prelude.{not, is_some, filter, option_map, slice_get, ◌==◌, if◌then◌else◌}
 use Rattle.std.specs.List.{list_any}
 use Rattle.std.proofs.lemmas.List.{append-nil, append_assoc, map-append, length-map}
 use Rattle.std.proofs.lemmas.List.Elements.{All-nil, All-cons, All-append}
@@ -11,7 +11,6 @@ use Rattle.hpack_tables.specs.declared.field.Field.{Field}
 use Rattle.h2_exchange.specs.declared.role.Role.{Role}
 use Rattle.h2_exchange.specs.declared.limits.H2Limits.{H2Limits}
 use Rattle.h2_exchange.specs.Exchange.{Step, Sent, received, sent}
-use Rattle.h2_exchange.specs.Frames.{increment_of}
 use Rattle.h2_exchange.specs.Sending.{update_text, IsCredited}
 use Rattle.h2_exchange.specs.Streams.{begun, is_begun, is_live, is_over, live}
 use Rattle.h2_exchange.specs.Windows.{granted_on, spent_on, spent}
@@ -25,8 +24,8 @@ use Rattle.h2_streams.proofs.Seen.{id_told}
 use Rattle.h2_streams.proofs.SentFrames.{nothing_new}
 use Rattle.h2_streams.proofs.Standing.{at_is}
 use Rattle.http_connection.specs.ConnectionTrace.{ConnectionTrace, Refusal, is_alive, held, wrote}
-use Rattle.http_connection.specs.Sends.{IsCredit, CarryCredit}
-use Rattle.h2_conn.specs.Credit.{owed_by, all_granted, stream_granted}
+use Rattle.http_connection.specs.Sends.{IsCredit}
+use Rattle.h2_conn.specs.Credit.{owed_by, all_granted}
 use Rattle.h2_conn.specs.Crediting.{ahead_in, granted_at, Credits, Releases, Holds}
 use Rattle.h2_conn.specs.State.{State}
 use Rattle.h2_conn.specs.Standing.{Stands, HasCredit, IsWithinCredit, ends_of}

@@ -1,31 +1,30 @@
 -- RST_STREAM.
-use Rattle.std.proofs.Common.{◌≡◌, ℕ, ◌+◌, ◌-◌, Bool, true, false, ◌||◌, ◌&&◌, List, [], ◌∷◌, ◌++◌, length, map, Option, Some, None, refl, sym, ap, subst, ◌∙◌, arith}
-use Rattle.std.specs.Prelude.{not, is_some, nat_lt, ◌==◌, if◌then◌else◌}
+use Rattle.std.proofs.Common.{◌≡◌, ℕ, ◌+◌, ◌-◌, Bool, true, false, ◌||◌, ◌&&◌, List, [], ◌∷◌, ◌++◌, Option, Some, None, refl, sym, ap, subst, ◌∙◌, arith}
+use Rattle.std.specs.Prelude.{not, nat_lt, ◌==◌, if◌then◌else◌}
 use Rattle.std.specs.Option.{option_or}
-use Rattle.std.specs.List.{list_any}
 use Rattle.std.proofs.lemmas.Bool.Decides.{nat_tests}
-use Rattle.std.proofs.lemmas.List.{append-nil, append_assoc}
+use Rattle.std.proofs.lemmas.List.{append-nil}
 use Rattle.std.proofs.lemmas.List.Folds.{list_any-append}
 use Rattle.h2_frames.specs.declared.code.ErrorCode.{ErrorCode}
 use Rattle.h2_frames.specs.declared.frame.Frame.{Frame}
-use Rattle.h2_frames.specs.Layout.{frame_text, size_of}
+use Rattle.h2_frames.specs.Layout.{size_of}
 use Rattle.h2_frames.specs.Stream.{place_at}
 use Rattle.h2_exchange.specs.declared.limits.CalmCause.TheVariants.{Resets}
 use Rattle.h2_exchange.specs.declared.limits.H2Limits.{H2Limits}
 use Rattle.h2_exchange.specs.declared.role.Role.{Role}
 use Rattle.h2_exchange.specs.declared.role.Role.TheVariants.{Client, Server}
-use Rattle.h2_exchange.specs.Blocks.{Block, blocks, completed}
+use Rattle.h2_exchange.specs.Blocks.{blocks, completed}
 use Rattle.h2_exchange.specs.Content.{Outcome, stream_error}
 use Rattle.h2_exchange.specs.Events.{Event, Reset, bytes_on, events_of, events_by, sound_events}
-use Rattle.h2_exchange.specs.Exchange.{Step, Received, Sent, received, sent}
-use Rattle.h2_exchange.specs.Frames.{stream_of, is_data, is_rst_stream, code_of, counted}
+use Rattle.h2_exchange.specs.Exchange.{Step, Received, received, sent}
+use Rattle.h2_exchange.specs.Frames.{stream_of, is_rst_stream, code_of, counted}
 use Rattle.h2_exchange.specs.Outcomes.{AreKnown}
 use Rattle.h2_exchange.specs.Sending.{ResetsErrors}
-use Rattle.h2_exchange.specs.Stops.{Calm, Stop, cuts_request, ends_call, frame_stop, has_request, request_bytes, stop_at, stop_of}
-use Rattle.h2_exchange.specs.Streams.{has_rst_stream, is_begun, is_ended_by, is_live, is_over}
+use Rattle.h2_exchange.specs.Stops.{Calm, Stop, cuts_request, ends_call, frame_stop, has_request, request_bytes, stop_at}
+use Rattle.h2_exchange.specs.Streams.{has_rst_stream, is_begun, is_ended_by, is_live}
 use Rattle.h2_exchange.proofs.Steps.{received_push}
 use Rattle.h2_streams.specs.declared.set.receive.SeenStream.{SeenStream}
-use Rattle.h2_streams.proofs.Lists.{by_number, self_eq}
+use Rattle.h2_streams.proofs.Lists.{self_eq}
 use Rattle.http_connection.specs.Answers.{AreReply, AreReplyBy}
 use Rattle.http_connection.specs.ConnectionTrace.{ConnectionTrace}
 use Rattle.h2_conn.specs.declared.asked.Asked.{Asked}
@@ -33,7 +32,7 @@ use Rattle.h2_conn.specs.declared.heard.End.TheVariants as by
 use Rattle.h2_conn.specs.Hears.{Ending, Quiet, Sound, Taken}
 use Rattle.h2_conn.specs.Receiving.{passed}
 use Rattle.h2_conn.specs.State.{State}
-use Rattle.h2_conn.specs.Standing.{Decodes, Going, HasCredit, Kept, ends_of}
+use Rattle.h2_conn.specs.Standing.{Decodes, Going, ends_of}
 use Rattle.h2_conn.specs.Steps.{Waiting}
 use Rattle.h2_conn.specs.Watching.{Watch, IsAsked, IsWatched, asked_on, cut_if, cut_on, is_whole, stop_by, without}
 use Rattle.h2_conn.proofs.Further.{resets_known}
@@ -44,7 +43,7 @@ use Rattle.h2_conn.proofs.LooseHeard.{block_is, credit_stays, decodes, error_is,
 use Rattle.h2_conn.proofs.Midway.{Mid, going_of, mid_as}
 use Rattle.h2_conn.proofs.NextMessage.{asked_apart}
 use Rattle.h2_conn.proofs.Plain.{none_completed, none_counted}
-use Rattle.h2_conn.proofs.Received.{IsQuiet, answered, clear_behind, kept, mid, quiet_is, takes, unrefused, watched_before}
+use Rattle.h2_conn.proofs.Received.{IsQuiet, clear_behind, kept, mid, quiet_is, takes, unrefused, watched_before}
 use Rattle.h2_conn.proofs.Splits.{resets_heard}
 use Rattle.h2_conn.proofs.Watched.{by_counts, count_push, cuts, ends, quiet_count, unbegun}
 use Rattle.h2_conn.proofs.Wholes.{whole_says}

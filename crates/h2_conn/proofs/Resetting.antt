@@ -1,24 +1,20 @@
 -- A connection that resets a live stream.
-use Rattle.std.proofs.Common.{◌≡◌, ℕ, ◌<◌, ◌^◌, Bool, true, false, ◌&&◌, List, [], ◌∷◌, ◌++◌, Option, Some, None, refl, sym, ap, subst, ◌∙◌, arith}
+use Rattle.std.proofs.Common.{◌≡◌, ℕ, ◌<◌, ◌^◌, Bool, true, false, ◌&&◌, List, [], ◌∷◌, ◌++◌, None, refl, sym, ap, ◌∙◌, arith}
 use Rattle.std.specs.Prelude.{not, length}
 use Rattle.std.specs.Int.{w32, to_be_bytes}
-use Rattle.std.proofs.lemmas.List.{append-nil}
 use Rattle.h2_frames.specs.declared.code.ErrorCode.{ErrorCode}
-use Rattle.h2_frames.specs.declared.frame.Frame.{Frame}
 use Rattle.h2_frames.specs.declared.frame.Frame.TheVariants.{RstStream}
 use Rattle.h2_frames.specs.declared.frame.FrameBody.{FrameBody}
-use Rattle.h2_frames.specs.Layout.{frame_text}
 use Rattle.h2_exchange.specs.declared.role.Role.{Role}
-use Rattle.h2_exchange.specs.Exchange.{Sent, received, sent}
-use Rattle.h2_exchange.specs.Sending.{acks_in, acks_for, reset_text}
+use Rattle.h2_exchange.specs.Exchange.{Sent, sent}
+use Rattle.h2_exchange.specs.Sending.{acks_in, reset_text}
 use Rattle.h2_exchange.specs.Streams.{is_begun, is_live, is_over}
 use Rattle.h2_streams.proofs.Resets.{resets}
 use Rattle.h2_streams.proofs.SentFrames.{none_begins}
 use Rattle.h2_streams.specs.Set.{dropped}
-use Rattle.http_connection.specs.ConnectionTrace.{ConnectionTrace, wrote}
-use Rattle.http_connection.specs.Sends.{CarryReset, BodyIs}
+use Rattle.http_connection.specs.ConnectionTrace.{ConnectionTrace}
 use Rattle.h2_conn.specs.State.{State}
-use Rattle.h2_conn.specs.Standing.{Going, Stands, ends_of}
+use Rattle.h2_conn.specs.Standing.{Stands, ends_of}
 use Rattle.h2_conn.specs.Steps.{with_reset}
 use Rattle.h2_conn.specs.Texts.{body}
 use Rattle.h2_conn.specs.Watching.{cut_on}

@@ -1,6 +1,6 @@
 -- What a connection says again, and the end of a stream that it told later.
 use Rattle.std.proofs.Common.{◌≡◌, ℕ, List, [], ◌∷◌, ◌++◌, Option, Some, None, inl, refl, sym, ap, subst, ◌∙◌}
-use Rattle.std.proofs.lemmas.List.{append-nil, append_assoc}
+use Rattle.std.proofs.lemmas.List.{append-nil}
 use Rattle.h2_exchange.specs.Content.{Outcome}
 use Rattle.h2_exchange.specs.Events.{Event}
 use Rattle.h2_exchange.specs.Events as event
@@ -12,8 +12,7 @@ use Rattle.h2_conn.specs.declared.conn.Why.{Why}
 use Rattle.h2_conn.specs.declared.conn.Why.TheVariants as was
 use Rattle.h2_conn.specs.Hears.{event_of_refusal}
 use Rattle.h2_conn.specs.State.{State, refusal_by}
-use Rattle.h2_conn.specs.Standing.{Stands, Going, ends_of}
-use Rattle.h2_conn.proofs.Closing.{closes}
+use Rattle.h2_conn.specs.Standing.{Stands, ends_of}
 
 again_by : (c : ConnectionTrace) (why : Why) → c.refusal ≡ refusal_by (Some why) → Answers c (event_of_refusal why) c
 again_by c (was.Broken code place) e = inl (e, refl)

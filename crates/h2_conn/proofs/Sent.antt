@@ -1,6 +1,6 @@
 -- A connection that sends data on an open stream.
-use Rattle.std.proofs.Common.{◌≡◌, ℕ, ◌+◌, ◌<◌, ◌≤◌, ◌^◌, ◌||◌, min, Bool, true, false, ◌&&◌, List, [], ◌∷◌, ◌++◌, length, take, Option, Some, None, refl, sym, ap, subst, ◌∙◌, arith}
-use Rattle.std.specs.Prelude.{not, bit_and, ◌==◌, if◌then◌else◌}
+use Rattle.std.proofs.Common.{◌≡◌, ℕ, ◌+◌, ◌<◌, ◌≤◌, ◌^◌, ◌||◌, Bool, true, false, ◌&&◌, List, [], ◌∷◌, ◌++◌, length, Option, Some, None, refl, sym, ap, subst, ◌∙◌, arith}
+use Rattle.std.specs.Prelude.{not, ◌==◌, if◌then◌else◌}
 use Rattle.h2_frames.specs.declared.frame.Frame.{Frame}
 use Rattle.h2_frames.specs.declared.frame.Frame.TheVariants.{Content}
 use Rattle.h2_frames.specs.declared.frame.FrameBody.{FrameBody}
@@ -8,15 +8,15 @@ use Rattle.h2_exchange.specs.declared.limits.H2Limits.{H2Limits}
 use Rattle.h2_exchange.specs.declared.role.Role.{Role}
 use Rattle.h2_exchange.specs.declared.role.Role.TheVariants.{Client, Server}
 use Rattle.h2_exchange.specs.Content.{Outcome}
-use Rattle.h2_exchange.specs.Exchange.{Step, Sent, received, sent}
+use Rattle.h2_exchange.specs.Exchange.{Step, Sent, sent}
 use Rattle.h2_exchange.specs.Frames.{has_end_stream}
-use Rattle.h2_exchange.specs.Sending.{acks_in, acks_for}
+use Rattle.h2_exchange.specs.Sending.{acks_in}
 use Rattle.h2_exchange.specs.Stops.{Calm, stop_of, ends_call, cuts_request, request_bytes}
 use Rattle.h2_exchange.specs.Streams.{is_begun, is_live, is_over, is_open, is_ended_by}
 use Rattle.h2_exchange.specs.Windows.{may_send}
 use Rattle.h2_streams.specs.declared.live.Stream.{Stream}
 use Rattle.h2_streams.specs.Live.{replaced}
-use Rattle.h2_streams.specs.Set.{Set, at, room_of, spent, spent_at, finished, dropped, closed_local}
+use Rattle.h2_streams.specs.Set.{Set, at, room_of, spent, spent_at, dropped, closed_local}
 use Rattle.h2_streams.specs.Stands as streams
 use Rattle.h2_streams.proofs.Ends.{ends_with_data}
 use Rattle.h2_streams.proofs.Sends.{sends}
@@ -25,7 +25,7 @@ use Rattle.h2_streams.proofs.Standing.{room_says}
 use Rattle.http_connection.specs.ConnectionTrace.{ConnectionTrace}
 use Rattle.http_connection.specs.Sends.{last_flag}
 use Rattle.h2_conn.specs.State.{State}
-use Rattle.h2_conn.specs.Standing.{Going, Stands, ends_of}
+use Rattle.h2_conn.specs.Standing.{Stands, ends_of}
 use Rattle.h2_conn.specs.Steps.{spent_to, sent_on, with_data}
 use Rattle.h2_conn.specs.Texts.{body}
 use Rattle.h2_conn.specs.Watching.{Watch, IsWatched, stop_by}

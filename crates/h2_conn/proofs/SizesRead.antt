@@ -1,5 +1,5 @@
 -- Settings, read one after another.
-use Rattle.std.proofs.Common.{◌≡◌, ℕ, ◌*◌, ◌+◌, ◌<◌, List, [], ◌∷◌, length, drop, ap, ◌∙◌, arith}
+use Rattle.std.proofs.Common.{◌≡◌, ℕ, ◌*◌, ◌+◌, List, ◌∷◌, drop, ap, ◌∙◌, arith}
 use Rattle.std.specs.Prelude.{◌==◌, if◌then◌else◌}
 use Rattle.hpack_tables.specs.Writing.{Encoder, limited}
 use Rattle.h2_exchange.specs.Windows.{settings_of}

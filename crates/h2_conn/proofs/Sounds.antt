@@ -1,26 +1,21 @@
 -- A connection that sends one more frame stays sound.
-use Rattle.std.proofs.Common.{◌≡◌, ℕ, ◌<◌, ◌≤◌, Bool, true, false, ◌||◌, ◌&&◌, List, [], ◌∷◌, ◌++◌, length, Option, Some, None, refl, sym, ap, subst, ◌∙◌, inl, inr, ◌⊎◌, map}
-use Rattle.std.specs.Prelude.{option_map, All, filter, if◌then◌else◌}
+use Rattle.std.proofs.Common.{◌≡◌, ℕ, ◌<◌, ◌≤◌, Bool, true, false, ◌||◌, ◌&&◌, List, [], ◌∷◌, ◌++◌, length, Option, Some, None, refl, sym, ap, subst, ◌∙◌, map}
+use Rattle.std.specs.Prelude.{option_map, filter, if◌then◌else◌}
 use Rattle.std.specs.List.{list_any, flat_map}
 use Rattle.std.proofs.lemmas.List.{append-nil, append_assoc, map-append}
 use Rattle.std.proofs.lemmas.List.Concat.{flat_map-append}
 use Rattle.std.proofs.lemmas.List.Elements.{filter-append}
-use Rattle.std.proofs.lemmas.List.Folds.{list_any-append}
 use Rattle.h2_frames.specs.declared.frame.Frame.{Frame}
 use Rattle.h2_frames.specs.Layout.{frame_text}
-use Rattle.hpack_tables.specs.declared.field.Field.{Field}
 use Rattle.hpack_tables.specs.Writing.{Encoder, fresh}
 use Rattle.h2_exchange.specs.declared.limits.H2Limits.{H2Limits}
 use Rattle.h2_exchange.specs.declared.role.Role.{Role}
 use Rattle.h2_exchange.specs.Blocks.{Block, block_with, blocks, open_block, left_open, completed, completed_by}
-use Rattle.h2_exchange.specs.Compression.{AreWritten, IsWritable}
 use Rattle.h2_exchange.specs.Content.{Outcome}
-use Rattle.h2_exchange.specs.Events.{Event}
-use Rattle.h2_exchange.specs.Exchange.{Step, Received, Sent, received, sent, sent_of, sent_text}
+use Rattle.h2_exchange.specs.Exchange.{Step, Received, Sent, received, sent, sent_text}
 use Rattle.h2_exchange.specs.Frames.{is_goaway, is_settings, is_ping, has_ack, has_end_headers}
 use Rattle.h2_exchange.specs.Order.{peer_preface, own_preface, end_of}
-use Rattle.h2_exchange.specs.Outcomes.{AreEnough, AreKnown, ReadFirst, BeginWithFrames, is_looked_at}
-use Rattle.h2_exchange.specs.Outgoing.{HasPlace}
+use Rattle.h2_exchange.specs.Outcomes.{AreEnough, ReadFirst, BeginWithFrames, is_looked_at}
 use Rattle.h2_exchange.specs.Rules.{breaks_block_on}
 use Rattle.h2_exchange.specs.Sending.{IsPrefix, acks_in, acks_for}
 use Rattle.h2_exchange.specs.Stops.{events}
@@ -28,7 +23,7 @@ use Rattle.h2_exchange.proofs.Staying.{events_stay}
 use Rattle.h2_exchange.proofs.Steps.{received_sent, sent_push, header_blocks_grow}
 use Rattle.http_connection.specs.ConnectionTrace.{ConnectionTrace, style_of}
 use Rattle.h2_conn.specs.Standing.{Kept}
-use Rattle.h2_conn.proofs.Splits.{Cut, last, within, cut_push, frame_or, is_sent, Fits, placed_push, windows_push}
+use Rattle.h2_conn.proofs.Splits.{Cut, last, within, cut_push, is_sent, Fits, placed_push, windows_push}
 use Rattle.h2_conn.proofs.Written.{written_push}
 
 -- ---- a sent frame and the received ones

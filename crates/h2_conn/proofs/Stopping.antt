@@ -1,22 +1,19 @@
 -- A connection that ends, by GOAWAY or for want of memory.
-use Rattle.std.proofs.Common.{◌≡◌, ℕ, ◌<◌, ◌≤◌, Bool, true, false, inl, inr, List, [], ◌∷◌, ◌++◌, length, Option, Some, None, refl, sym, ap, subst, ◌∙◌, arith}
-use Rattle.std.specs.List.{list_any}
+use Rattle.std.proofs.Common.{◌≡◌, ℕ, List, [], ◌∷◌, ◌++◌, length, Some, None, refl, sym, ap, subst, ◌∙◌, arith}
 use Rattle.std.specs.Int.{w32, to_be_bytes}
 use Rattle.std.proofs.lemmas.List.{append-nil}
 use Rattle.h2_frames.specs.declared.code.ErrorCode.{ErrorCode}
-use Rattle.h2_frames.specs.declared.frame.Frame.{Frame}
 use Rattle.h2_frames.specs.declared.frame.Frame.TheVariants.{GoAway}
 use Rattle.h2_frames.specs.declared.frame.FrameBody.{FrameBody}
 use Rattle.h2_frames.specs.Layout.{text_of, frame_text}
 use Rattle.hpack_tables.specs.Writing.{Encoder}
 use Rattle.h2_exchange.specs.Content.{Outcome}
 use Rattle.h2_exchange.specs.Events.{Event}
-use Rattle.h2_exchange.specs.Exchange.{Step, Sent, received, sent}
-use Rattle.h2_exchange.specs.Frames.{is_goaway}
-use Rattle.h2_exchange.specs.Sending.{acks_in, acks_for, last_begun, goaway_text, ResetsErrors}
-use Rattle.h2_exchange.specs.Stops.{Stop, before_stop}
-use Rattle.http_connection.specs.Answers.{GivesEvents, Stops, RunsOutOfMemory, HasWork, IsCause, after, code_of}
-use Rattle.http_connection.specs.ConnectionTrace.{ConnectionTrace, Refusal, Stopped, NoMemory, events_in}
+use Rattle.h2_exchange.specs.Exchange.{Sent, sent}
+use Rattle.h2_exchange.specs.Sending.{acks_in, ResetsErrors}
+use Rattle.h2_exchange.specs.Stops.{Stop}
+use Rattle.http_connection.specs.Answers.{GivesEvents, Stops, RunsOutOfMemory, HasWork, after, code_of}
+use Rattle.http_connection.specs.ConnectionTrace.{ConnectionTrace, Refusal, Stopped, NoMemory}
 use Rattle.h2_conn.specs.State.{State}
 use Rattle.h2_conn.specs.Standing.{Kept, Stands}
 use Rattle.h2_conn.specs.Steps.{Halted, with_goaway}

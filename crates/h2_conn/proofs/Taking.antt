@@ -1,7 +1,6 @@
 -- What a frame that was taken leads to.
-use Rattle.std.proofs.Common.{◌≡◌, ℕ, Bool, true, false, ◌&&◌, List, [], ◌∷◌, ◌++◌, length, ◌<◌, Option, Some, None, Result, Ok, Err, refl, sym, ap, subst, ◌∙◌}
-use Rattle.std.specs.Prelude.{not, is_some, option_map, option_to_list, if◌then◌else◌}
-use Rattle.std.specs.Option.{option_or}
+use Rattle.std.proofs.Common.{◌≡◌, ℕ, Bool, true, false, ◌&&◌, List, [], ◌∷◌, ◌++◌, length, ◌<◌, Option, Some, None, Ok, Err, refl, sym, ap, subst, ◌∙◌}
+use Rattle.std.specs.Prelude.{not, is_some, option_to_list, if◌then◌else◌}
 use Rattle.std.proofs.lemmas.List.{append-nil}
 use Rattle.h2_frames.specs.declared.code.ErrorCode.{ErrorCode}
 use Rattle.h2_frames.specs.declared.frame.Frame.{Frame}
@@ -10,14 +9,14 @@ use Rattle.hpack_tables.specs.declared.field.Field.{Field}
 use Rattle.h2_exchange.specs.declared.limits.H2Limits.{H2Limits}
 use Rattle.h2_exchange.specs.declared.role.Role.{Role}
 use Rattle.h2_exchange.specs.Blocks.{Block, blocks, block_with, open_block, completed}
-use Rattle.h2_exchange.specs.Content.{Outcome, outcome_at}
-use Rattle.h2_exchange.specs.Exchange.{Step, Received, Sent, received}
-use Rattle.h2_exchange.specs.Events.{Event, GoneAway}
-use Rattle.h2_exchange.specs.Frames.{is_data, is_headers, is_rst_stream, is_continuation, is_goaway, last_stream_of, goaway_code_of}
+use Rattle.h2_exchange.specs.Content.{Outcome}
+use Rattle.h2_exchange.specs.Exchange.{Step, Received, received}
+use Rattle.h2_exchange.specs.Events.{GoneAway}
+use Rattle.h2_exchange.specs.Frames.{is_goaway, last_stream_of, goaway_code_of}
 use Rattle.h2_exchange.specs.Outcomes.{AreEnough, AreKnown, ReadFirst, is_looked_at}
 use Rattle.h2_exchange.specs.Rules.{frame_error}
 use Rattle.h2_exchange.specs.Sending.{last_begun}
-use Rattle.h2_exchange.specs.Stops.{Stop, Error, stop_at, stop_of, frame_stop, block_stop, content_stop, place_behind}
+use Rattle.h2_exchange.specs.Stops.{Stop, Error, stop_at, stop_of, block_stop, place_behind}
 use Rattle.h2_exchange.proofs.Steps.{received_push, header_blocks_grow}
 use Rattle.h2_streams.specs.declared.set.receive.SeenStream.{SeenStream}
 use Rattle.http_connection.specs.ConnectionTrace.{ConnectionTrace}
@@ -27,7 +26,7 @@ use Rattle.h2_conn.specs.declared.heard.Took.TheVariants as take
 use Rattle.h2_conn.specs.Hears.{TookSo, Sound, Ending, Taken, SaysSo, is_plain}
 use Rattle.h2_conn.specs.State.{State}
 use Rattle.h2_conn.specs.Steps.{Waiting, plain_in}
-use Rattle.h2_conn.proofs.Controls.{plain_goes, tells}
+use Rattle.h2_conn.proofs.Controls.{plain_goes}
 use Rattle.h2_conn.proofs.Halting.{ending}
 use Rattle.h2_conn.proofs.Plain.{IsPlain}
 use Rattle.h2_conn.proofs.Splits.{Cut, last, within, cut_push, frame_or}

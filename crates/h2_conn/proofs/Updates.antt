@@ -1,6 +1,6 @@
 -- A connection that sends credit.
-use Rattle.std.proofs.Common.{◌≡◌, ℕ, ◌+◌, ◌%◌, ◌<◌, ◌≤◌, ◌^◌, Bool, true, false, List, [], ◌∷◌, ◌++◌, length, take, Option, Some, None, refl, sym, ap, subst, ◌∙◌, arith}
-use Rattle.std.specs.Int.{w32, to_be_bytes, from_be_bytes}
+use Rattle.std.proofs.Common.{◌≡◌, ℕ, ◌%◌, ◌<◌, ◌^◌, true, false, List, [], ◌∷◌, ◌++◌, length, Option, Some, None, refl, sym, ap, ◌∙◌, arith}
+use Rattle.std.specs.Int.{w32, to_be_bytes}
 use Rattle.std.proofs.lemmas.Nat.{from_be_bytes-to_be_bytes_4}
 use Rattle.h2_frames.specs.declared.frame.Frame.{Frame}
 use Rattle.h2_frames.specs.declared.frame.Frame.TheVariants.{WindowUpdate}
@@ -13,9 +13,9 @@ use Rattle.h2_exchange.specs.declared.role.Role.TheVariants.{Client, Server}
 use Rattle.h2_exchange.specs.Blocks.{open_block}
 use Rattle.h2_exchange.specs.Content.{Outcome}
 use Rattle.h2_exchange.specs.Events.{Event}
-use Rattle.h2_exchange.specs.Exchange.{Step, Sent, received, sent}
+use Rattle.h2_exchange.specs.Exchange.{Step, Sent, sent}
 use Rattle.h2_exchange.specs.Frames.{increment_of}
-use Rattle.h2_exchange.specs.Sending.{acks_in, update_text}
+use Rattle.h2_exchange.specs.Sending.{acks_in}
 use Rattle.h2_exchange.specs.Stops.{ends_call}
 use Rattle.h2_exchange.specs.Streams.{is_live}
 use Rattle.h2_streams.specs.declared.live.Stream.{Stream}

@@ -1,5 +1,5 @@
 -- What a watch says where one more frame is sent.
-use Rattle.std.proofs.Common.{◌≡◌, ℕ, ◌+◌, ◌-◌, ◌<◌, ◌≤◌, Bool, true, false, ◌||◌, ◌&&◌, List, [], ◌∷◌, ◌++◌, length, length-append, Option, Some, None, refl, sym, ap, subst, ◌∙◌, arith}
+use Rattle.std.proofs.Common.{◌≡◌, ℕ, ◌+◌, Bool, true, false, ◌||◌, ◌&&◌, List, [], ◌∷◌, ◌++◌, length, length-append, Option, Some, None, refl, sym, ap, subst, ◌∙◌, arith}
 use Rattle.std.specs.Prelude.{not, nat_lt, ◌==◌, if◌then◌else◌}
 use Rattle.std.specs.Option.{option_or}
 use Rattle.std.specs.List.{flat_map}
@@ -13,8 +13,8 @@ use Rattle.h2_exchange.specs.declared.role.Role.{Role}
 use Rattle.h2_exchange.specs.declared.role.Role.TheVariants.{Client, Server}
 use Rattle.h2_exchange.specs.Blocks.{data_of}
 use Rattle.h2_exchange.specs.Content.{Outcome}
-use Rattle.h2_exchange.specs.Events.{Event, events_of, all_events, bytes_on}
-use Rattle.h2_exchange.specs.Exchange.{Step, Received, Sent, received, sent, collect}
+use Rattle.h2_exchange.specs.Events.{events_of, all_events, bytes_on}
+use Rattle.h2_exchange.specs.Exchange.{Step, Sent, sent, collect}
 use Rattle.h2_exchange.specs.Frames.{stream_of, is_data, is_rst_stream}
 use Rattle.h2_exchange.specs.Stops.{Stop, Calm, stop_at, stop_of, count_steps, request_bytes, ends_call, cuts_request, has_request}
 use Rattle.h2_exchange.specs.Streams.{begins, is_begun, is_live}

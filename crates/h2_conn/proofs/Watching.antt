@@ -1,13 +1,13 @@
 -- What a watch says where bytes stand on a request, and its call ends.
-use Rattle.std.proofs.Common.{◌≡◌, ℕ, ◌+◌, Bool, true, false, ◌&&◌, List, [], ◌∷◌, ◌++◌, Option, Some, None, refl, sym, ap, subst, ◌∙◌, arith}
-use Rattle.std.specs.Prelude.{not, find, filter, ◌==◌, if◌then◌else◌}
+use Rattle.std.proofs.Common.{◌≡◌, ℕ, ◌+◌, Bool, true, false, List, ◌++◌, Option, Some, None, refl, sym, ap, subst, ◌∙◌, arith}
+use Rattle.std.specs.Prelude.{if◌then◌else◌}
 use Rattle.h2_exchange.specs.declared.limits.H2Limits.{H2Limits}
 use Rattle.h2_exchange.specs.declared.role.Role.{Role}
 use Rattle.h2_exchange.specs.Content.{Outcome}
 use Rattle.h2_exchange.specs.Exchange.{Step}
 use Rattle.h2_exchange.specs.Stops.{request_bytes}
 use Rattle.h2_exchange.specs.Streams.{is_begun, is_live}
-use Rattle.h2_streams.proofs.Lists.{self_eq, isnt, by_number}
+use Rattle.h2_streams.proofs.Lists.{by_number}
 use Rattle.h2_conn.specs.declared.asked.Asked.{Asked}
 use Rattle.h2_conn.specs.Watching.{Watch, IsWatched, IsAsked, asked_on, asked_with, found_in, put_by, taken_on, ended_if}
 use Rattle.h2_conn.proofs.Requests.{placed_here, placed_there, replaced_here, replaced_there}

@@ -1,5 +1,5 @@
 -- Header blocks in frames, and what a connection becomes where it sends one (RFC 9113, sections 4.3, 6.2 and 6.10).
-use Rattle.std.specs.Prelude.{◌≡◌, ℕ, zero, suc, ◌+◌, ◌-◌, ◌*◌, ◌/◌, ◌≤◌, Bool, true, false, is_some, List, [], ◌∷◌, ◌++◌, length, take, drop, if◌then◌else◌}
+use Rattle.std.specs.Prelude.{◌≡◌, ℕ, zero, suc, ◌+◌, ◌-◌, ◌/◌, ◌≤◌, Bool, true, false, is_some, List, ◌∷◌, ◌++◌, length, take, drop, if◌then◌else◌}
 use Rattle.std.specs.Int.{w32, to_be_bytes}
 use Rattle.hpack_tables.specs.declared.field.Field.{Field}
 use Rattle.hpack_tables.specs.Writing.{Encoder, Writes}
@@ -9,7 +9,7 @@ use Rattle.h2_exchange.specs.declared.role.Role.TheVariants.{Client, Server}
 use Rattle.h2_streams.specs.Set.{Set, at, begun, finished, next_id}
 use Rattle.http_connection.specs.Sends.{last_flag, text_room}
 use Rattle.h2_conn.specs.State.{State}
-use Rattle.h2_conn.specs.Watching.{Watch, ended_if, over_on}
+use Rattle.h2_conn.specs.Watching.{ended_if, over_on}
 
 -- ---- the frames
 

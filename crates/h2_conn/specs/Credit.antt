@@ -1,5 +1,5 @@
 -- Credit that is sent for what was received.
-use Rattle.std.specs.Prelude.{ℕ, ◌-◌, ◌==◌, Bool, true, false, List, ◌++◌, if◌then◌else◌}
+use Rattle.std.specs.Prelude.{ℕ, ◌-◌, ◌==◌, ◌++◌, if◌then◌else◌}
 use Rattle.h2_exchange.specs.Sending.{update_text}
 use Rattle.h2_streams.specs.Set.{Set, at, credited, credited_on, owed_in}
 use Rattle.h2_conn.specs.State.{State}

@@ -1,5 +1,5 @@
 -- Header blocks as they are put together from their frames, and what their content leads to.
-use Rattle.std.specs.Prelude.{◌≡◌, ℕ, ◌+◌, ◌<◌, nat_lt, min, Bool, true, false, not, List, [], ◌∷◌, ◌++◌, length, sum_by, Option, Some, None, Result, Ok, Err, if◌then◌else◌}
+use Rattle.std.specs.Prelude.{ℕ, ◌+◌, nat_lt, min, Bool, true, false, List, ◌++◌, length, sum_by, Option, Some, None, Result, Ok, Err, if◌then◌else◌}
 use Rattle.hpack_tables.specs.Decoder.{Decoder, GivesFields, RefusesBlock}
 use Rattle.hpack_tables.specs.EntrySizes.{size_of}
 use Rattle.hpack_tables.specs.declared.fault.HpackFault.{HpackFault}

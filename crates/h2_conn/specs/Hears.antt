@@ -1,5 +1,5 @@
 -- What is heard of a peer, and what it leads to.
-use Rattle.std.specs.Prelude.{◌≡◌, ℕ, ◌<◌, List, [], ◌∷◌, ◌++◌, length, ◌+◌, ◌&&◌, not, Bool, false, Option, Some, None, if◌then◌else◌}
+use Rattle.std.specs.Prelude.{◌≡◌, ℕ, ◌<◌, List, [], ◌∷◌, ◌++◌, length, ◌+◌, ◌&&◌, not, Bool, false, Some, None, if◌then◌else◌}
 use Rattle.hpack_tables.specs.Writing.{Encoder}
 use Rattle.h2_frames.specs.declared.frame.Frame.{Frame}
 use Rattle.h2_frames.specs.declared.code.ErrorCode.{ErrorCode}

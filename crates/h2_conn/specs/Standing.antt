@@ -1,6 +1,6 @@
 -- How a connection stands for its course, part by part.
 use Rattle.std.proofs.Common.{subst}
-use Rattle.std.specs.Prelude.{◌≡◌, ℕ, ◌+◌, ◌<◌, ◌≤◌, Bool, true, false, All, List, [], ◌∷◌, ◌++◌, length, Option, Some, None, Result, Ok, Err}
+use Rattle.std.specs.Prelude.{◌≡◌, ℕ, ◌+◌, ◌<◌, ◌≤◌, Bool, true, false, All, List, [], ◌∷◌, ◌++◌, length, Option, Some, None, Ok, Err}
 use Rattle.std.specs.List.{list_any}
 use Rattle.hpack_tables.specs.declared.field.Field.{Field}
 use Rattle.hpack_tables.specs.Decoder.{Decoder}

@@ -1,5 +1,5 @@
 -- The frames that a connection sends, as records.
-use Rattle.std.specs.Prelude.{◌≡◌, ◌≤◌, ◌<◌, ◌^◌, ℕ, ◌++◌, ◌∷◌, [], List, length}
+use Rattle.std.specs.Prelude.{◌≤◌, ◌<◌, ◌^◌, ℕ, List, length}
 use Rattle.h2_frames.specs.declared.frame.FrameBody.{FrameBody}
 
 -- a frame's body of these parts

@@ -6,6 +6,7 @@ ghost use Rattle.h2_streams.specs.Live.{Rises};
 ghost use Rattle.h2_conn.specs.Watching.{asked_on, asked_behind, is_whole, cut_on, cut_if, over_on, without, placed, replaced, taken_on, ended_if, asked_with, word_with};
 
 use crate::asked::Asked;
+use h2_streams::numbered;
 use std::alloc::{AllocError, Global};
 use std::marker::Model;
 
@@ -51,50 +52,6 @@ fn remove(asked: &mut Vec<Asked>, id: u32)
     ensures capacity { vec_capacity asked.new ≡ vec_capacity asked.old }
 {
     asked.retain(|asked| asked.id != id);
-}
-
-/// A guess at where the request of a stream stands: a client's ids rise by two.
-fn guess(asked: &[Asked], id: u32) -> usize {
-    match asked.first() {
-        Some(first) => (id.saturating_sub(first.id) / 2) as usize,
-        None => 0,
-    }
-}
-
-fn place_by_halves(asked: &[Asked], id: u32) -> usize
-    requires { Rises (λ a. a.id) 0 4294967296 asked.now }
-    ensures { result ≡ position_or_len (λ a. a.id == id) asked.now }
-{
-    let mut low = 0;
-    let mut high = asked.len();
-    'halves: while low < high {
-        let at = low + (high - low) / 2;
-        let request = &asked[at];
-        if request.id == id {
-            return at;
-        }
-        if request.id < id {
-            low = at + 1;
-        } else {
-            high = at;
-        }
-    }
-    asked.len()
-}
-
-/// Where the request of a stream stands; how many there are where there is none.
-fn place_of(asked: &[Asked], id: u32) -> usize
-    requires { Rises (λ a. a.id) 0 4294967296 asked.now }
-    ensures { result ≡ position_or_len (λ a. a.id == id) asked.now }
-{
-    let at = guess(asked, id);
-    if at < asked.len() {
-        let request = &asked[at];
-        if request.id == id {
-            return at;
-        }
-    }
-    place_by_halves(asked, id)
 }
 
 /// The request that stands at this place.
@@ -255,7 +212,7 @@ impl Watch {
         ensures ok { OnOk result (self.new ≡ taken_on id bytes.now self.old) }
         ensures err { OnErr result (self.new ≡ self.old) }
     {
-        let place = place_of(self.asked.as_slice(), id);
+        let place = numbered::place_of(self.asked.as_slice(), id);
         put(&mut self.asked, place, id, bytes)
     }
 

@@ -1,8 +1,6 @@
 -- The place of a stream, and what is left of a stream that a frame stands on.
-use Rattle.std.proofs.Common.{◌≡◌, ℕ, ◌+◌, ◌-◌, ◌<◌, zero, suc, Bool, true, false, not, ◌&&◌, List, [], ◌∷◌, length, set, map, Option, Some, None, refl, sym, ap, ◌∙◌, subst, arith}
-use Rattle.std.specs.Prelude.{find, option_map, slice_get, is_some, nat_lt, if◌then◌else◌, ◌==◌}
-use Rattle.std.specs.List.{position}
-use Rattle.std.proofs.lemmas.Bool.Decides.{nat_tests}
+use Rattle.std.proofs.Common.{◌≡◌, ℕ, ◌+◌, ◌-◌, ◌<◌, zero, suc, Bool, true, false, not, ◌&&◌, List, [], ◌∷◌, length, set, map, Option, Some, None, refl, sym, ap, ◌∙◌, arith}
+use Rattle.std.specs.Prelude.{find, option_map, slice_get, is_some, if◌then◌else◌, ◌==◌}
 use Rattle.std.proofs.lemmas.List.Folds.{find_at}
 use Rattle.std.proofs.lemmas.List.Recursion.{is_position_or_len}
 use Rattle.h2_frames.specs.declared.code.ErrorCode.{ErrorCode}
@@ -75,23 +73,6 @@ nothing_to_set id place new xs e none = none_at_steps id new xs (same (steps id 
     same m n w f = grind (arith, w, f)
 
 -- ---- the place itself
-
-pub place_found : (id place : ℕ) (xs : List Stream) → Some place ≡ position (is_stream id) xs → place ≡ place_of id xs
-place_found id place xs e = by (nat_lt (place_of id xs) (length xs)) e
-  where
-    by : (b : Bool) → Some place ≡ (if b then Some (place_of id xs) else None) → place ≡ place_of id xs
-    by true e = cc
-    by false e = absurd cc
-
-pub place_last : (id : ℕ) (xs : List Stream) → None ≡ position (is_stream id) xs → length xs ≡ place_of id xs
-place_last id xs e = by (nat_lt (place_of id xs) (length xs)) refl e
-  where
-    by : (b : Bool) → nat_lt (place_of id xs) (length xs) ≡ b → ◌≡◌ {A = Option ℕ} None (if b then Some (place_of id xs) else None) → length xs ≡ place_of id xs
-    by true f e = absurd cc
-    by false f e = last (place_of id xs) (length xs) f (subst (λ (n : ℕ). n < suc (length xs)) (steps_are id xs) (steps_within id xs))
-      where
-        last : (m n : ℕ) → nat_lt m n ≡ false → m < suc n → n ≡ m
-        last m n f g = grind (arith, nat_tests)
 
 pub met_at : (id place : ℕ) (xs ys : List Stream) (met : Option Stream) → met ≡ slice_get ys place → ys ≡ xs → place ≡ place_of id xs → met ≡ find (is_stream id) xs
 met_at id place xs ys met e same is = e ∙ ap (λ (l : List Stream). slice_get l place) same ∙ ap (slice_get xs) is ∙ sym (find_at (is_stream id) xs)

@@ -17,6 +17,7 @@
 /// Laws over sent frames and malformed blocks, each the contract of a function that does nothing.
 pub mod laws;
 mod live;
+pub mod numbered;
 mod rules;
 mod set;
 mod settings;

@@ -1,9 +1,10 @@
 //! The streams that are live, in the order of their ids.
-ghost use Rattle.std.specs.Prelude.{◌≡◌, ◌<◌, ℕ, true, slice_get};
+ghost use Rattle.std.specs.Prelude.{◌≡◌, ◌<◌, true, slice_get};
 ghost use Rattle.std.specs.Vec.{vec_capacity, vec_len};
-ghost use Rattle.h2_streams.specs.Live.{IsRising, place_of, replaced, with_outcome, without};
+ghost use Rattle.h2_streams.specs.Live.{place_of, replaced, with_outcome, without};
 ghost use Rattle.h2_streams.specs.Set.{new_stream};
 
+use crate::numbered::Numbered;
 use h2_exchange::H2Limits;
 
 /// A stream that is live.
@@ -17,6 +18,14 @@ pub struct Stream {
     pub room: u32,
     /// How many bytes may still be received.
     pub receive: u32,
+}
+
+impl Numbered for Stream {
+    ghost number = { λ s. s.id };
+
+    fn number(&self) -> u32 {
+        self.id
+    }
 }
 
 /// What becomes of a frame's stream.
@@ -42,52 +51,6 @@ impl Stream {
             receive: limits.window,
         }
     }
-}
-
-/// A guess at where the stream with this id stands: a client's ids rise by two.
-fn guess(live: &[Stream], id: u32) -> usize {
-    match live.first() {
-        Some(first) => (id.saturating_sub(first.id) / 2) as usize,
-        None => 0,
-    }
-}
-
-/// How many streams stand before the one with this id; all of them where it isn't live. What is left is halved by each
-/// comparison.
-fn place_by_halves(live: &[Stream], id: u32) -> usize
-    requires { (high : ℕ) × IsRising high live.now }
-    ensures { result ≡ place_of id live.now }
-{
-    let mut low = 0;
-    let mut high = live.len();
-    'halves: while low < high {
-        let at = low + (high - low) / 2;
-        let stream = &live[at];
-        if stream.id == id {
-            return at;
-        }
-        if stream.id < id {
-            low = at + 1;
-        } else {
-            high = at;
-        }
-    }
-    live.len()
-}
-
-/// How many streams stand before the one with this id; all of them where it isn't live.
-pub fn place_of(live: &[Stream], id: u32) -> usize
-    requires { (high : ℕ) × IsRising high live.now }
-    ensures { result ≡ place_of id live.now }
-{
-    let at = guess(live, id);
-    if at < live.len() {
-        let stream = &live[at];
-        if stream.id == id {
-            return at;
-        }
-    }
-    place_by_halves(live, id)
 }
 
 /// The stream at this place.

@@ -17,6 +17,7 @@ mod judge;
 pub mod receive;
 
 use crate::live::{self, Stream};
+use crate::numbered;
 use h2_exchange::{H2Limits, Role, SendFault};
 use std::alloc::{AllocError, Global};
 use std::marker::Model;
@@ -105,7 +106,7 @@ impl StreamSet {
     fn place_of(&self, id: u32) -> usize
         ensures { result ≡ place_of id self.now.live }
     {
-        live::place_of(self.live.as_slice(), id)
+        numbered::place_of(self.live.as_slice(), id)
     }
 
     /// The live stream with this id, which stands at this place.

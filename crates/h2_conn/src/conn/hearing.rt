@@ -157,14 +157,15 @@ fn code_of(end: End) -> ErrorCode
     }
 }
 
-/// What a frame gives, with its data.
-fn with_data(took: Took, frame: Frame) -> Heard
-    ensures ends { Ends took frame result }
+/// What a frame gives that has these data.
+fn with_bytes(took: Took, bytes: Bytes) -> Heard
+    requires { length bytes ≤ 16384 }
+    ensures ends { (f : Frame) → bytes ≡ block.data_of f → Ends took f result }
     ensures size { size_heard result ≤ 16384 }
 {
     match took {
         Took::Quiet => Heard::Quiet,
-        Took::Data(stream) => Heard::Piece(stream, data_of(frame)),
+        Took::Data(stream) => Heard::Piece(stream, bytes),
         Took::Head(stream, fields, last) => Heard::Head(stream, fields, last),
         Took::Ended(stream) => Heard::Ended(stream),
         Took::Reset(stream, code) => Heard::Reset(stream, code),
@@ -172,6 +173,14 @@ fn with_data(took: Took, frame: Frame) -> Heard
         Took::Stopped(end, last) => Heard::Stopped(end, last),
         Took::NoMemory => Heard::NoMemory,
     }
+}
+
+/// What a frame gives, with its data.
+fn with_data(took: Took, frame: Frame) -> Heard
+    ensures ends { Ends took frame result }
+    ensures size { size_heard result ≤ 16384 }
+{
+    with_bytes(took, data_of(frame))
 }
 
 impl H2Conn {

@@ -1,4 +1,4 @@
-use Rattle.std.proofs.Common.{◌≡◌, ℕ, suc, ◌+◌, ◌-◌, ◌++◌, take, drop, [], refl, ap, ◌∙◌, arith}
+use Rattle.std.proofs.Common.{◌≡◌, ℕ, suc, ◌-◌, ◌++◌, take, drop, [], refl, ap, ◌∙◌, arith}
 use Rattle.h2_conn.specs.Blocks.{header_text, frames_text}
 use Rattle.h2_conn.proofs.Framing.{one_frame}
 use Rattle.h2_conn.proofs.blocks.+frame.Goals as goal

@@ -1,10 +1,10 @@
-use Rattle.std.proofs.Common.{◌≡◌, ℕ, true, false, sym, ap, ◌∙◌, subst, Option, None}
+use Rattle.std.proofs.Common.{ℕ, sym, ap, subst}
 use Rattle.h2_conn.specs.State.{state_of, refusal_by}
 use Rattle.h2_conn.specs.Hears.{Ending}
 use Rattle.h2_conn.specs.declared.heard.End.TheVariants as by
 use Rattle.h2_exchange.specs.Exchange.{received}
 use Rattle.h2_exchange.specs.Order.{peer_preface}
-use Rattle.h2_conn.proofs.Reading.{refused, idle, starved, waiting, a}
+use Rattle.h2_conn.proofs.Reading.{refused, idle, starved, waiting}
 use Rattle.h2_conn.proofs.conn.H2Conn.hear.Goals as goal
 
 pub returns-in-NeedMore-clause-heard : goal.returns-in-NeedMore-clause-heard

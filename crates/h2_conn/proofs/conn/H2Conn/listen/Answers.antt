@@ -1,4 +1,4 @@
-use Rattle.std.proofs.Common.{◌≡◌, ℕ, true, false, sym, ap, ◌∙◌, subst, Option, None, refl, arith, [], ◌∷◌}
+use Rattle.std.proofs.Common.{sym, ap, ◌∙◌, arith, [], ◌∷◌}
 use Rattle.h2_exchange.specs.Events as event
 use Rattle.h2_exchange.specs.declared.limits.CalmCause.TheVariants.{Resets}
 use Rattle.h2_conn.specs.declared.heard.End.TheVariants as by

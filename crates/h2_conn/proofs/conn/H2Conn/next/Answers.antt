@@ -1,4 +1,4 @@
-use Rattle.std.proofs.Common.{◌≡◌, sym, ap, ◌∙◌}
+use Rattle.std.proofs.Common.{ap}
 use Rattle.h2_conn.specs.State.{state_of, refusal_by}
 use Rattle.h2_conn.proofs.Saying.{again, told_end}
 use Rattle.h2_conn.proofs.conn.H2Conn.next.Goals as goal

@@ -1,12 +1,12 @@
-use Rattle.std.proofs.Common.{◌≡◌, ℕ, ◌∷◌, [], ap, sym, subst, ◌∙◌}
+use Rattle.std.proofs.Common.{◌≡◌, ◌∷◌, [], ap, sym, subst, ◌∙◌}
 use Rattle.h2_frames.specs.declared.frame.FrameBody.{FrameBody}
 use Rattle.h2_exchange.specs.Blocks.{data_of}
 use Rattle.h2_exchange.specs.Events.{Data}
 use Rattle.h2_exchange.specs.Frames.{stream_of}
 use Rattle.h2_conn.specs.Credit.{with_credit}
 use Rattle.h2_conn.specs.Hears.{Taken}
-use Rattle.h2_conn.specs.Receiving.{passed, with_data_of, with_heard, with_told}
-use Rattle.h2_conn.specs.State.{State, state_of}
+use Rattle.h2_conn.specs.Receiving.{passed, with_heard, with_told}
+use Rattle.h2_conn.specs.State.{state_of}
 use Rattle.h2_conn.proofs.DataHeard.{dead_quiet, data_starves, live_taken}
 use Rattle.h2_conn.proofs.Facts.{ok_holds, err_holds, not_true, not_false}
 use Rattle.h2_conn.proofs.Loose.{data_is}

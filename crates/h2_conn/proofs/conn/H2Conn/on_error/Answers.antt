@@ -1,11 +1,11 @@
-use Rattle.std.proofs.Common.{◌≡◌, ℕ, ◌∷◌, [], ap, sym, subst, ◌∙◌}
+use Rattle.std.proofs.Common.{◌∷◌, [], ap, sym, subst, ◌∙◌}
 use Rattle.h2_frames.specs.declared.frame.FrameBody.{FrameBody}
 use Rattle.h2_exchange.specs.Events.{Reset}
 use Rattle.h2_exchange.specs.Frames.{stream_of}
 use Rattle.h2_conn.specs.Credit.{with_credit}
 use Rattle.h2_conn.specs.Hears.{Taken}
 use Rattle.h2_conn.specs.Receiving.{with_reset_of}
-use Rattle.h2_conn.specs.State.{State, state_of}
+use Rattle.h2_conn.specs.State.{state_of}
 use Rattle.h2_conn.proofs.LooseErrors.{error_taken}
 use Rattle.h2_conn.proofs.conn.H2Conn.on_error.Goals as goal
 

@@ -1,4 +1,4 @@
-use Rattle.std.proofs.Common.{◌≡◌, subst}
+use Rattle.std.proofs.Common.{subst}
 use Rattle.h2_exchange.specs.declared.fault.StreamFault.{StreamFault}
 use Rattle.h2_conn.specs.Hears.{FailsSo}
 use Rattle.h2_conn.specs.State.{state_of}

@@ -1,11 +1,11 @@
-use Rattle.std.proofs.Common.{◌≡◌, ℕ, true, false, Bool, List, ap, sym, subst, ◌∙◌, refl, Result, Err, Ok}
+use Rattle.std.proofs.Common.{List, sym, subst, ◌∙◌, Result, Err, Ok}
 use Rattle.hpack_tables.specs.declared.fault.HpackFault.{HpackFault}
 use Rattle.hpack_tables.specs.declared.field.Field.{Field}
 use Rattle.h2_conn.specs.BlocksRead.{ReadFaulty}
-use Rattle.h2_conn.specs.HeaderParts.{BlockIsRead, block_in, took_fault}
+use Rattle.h2_conn.specs.HeaderParts.{BlockIsRead, block_in}
 use Rattle.h2_conn.specs.Hears.{TookSo}
 use Rattle.h2_conn.specs.declared.heard.Took.{Took}
-use Rattle.h2_conn.specs.State.{State, state_of}
+use Rattle.h2_conn.specs.State.{state_of}
 use Rattle.h2_conn.proofs.Blocked.{faulty_fault, faulty_limit, faulty_reads}
 use Rattle.h2_conn.proofs.conn.H2Conn.on_faulty_block.Goals as goal
 

@@ -1,13 +1,12 @@
-use Rattle.std.proofs.Common.{◌≡◌, ℕ, ◌∷◌, [], true, false, Bool, ap, sym, subst, ◌∙◌, refl}
+use Rattle.std.proofs.Common.{◌∷◌, [], Bool, ap, sym, subst, ◌∙◌, refl}
 use Rattle.std.specs.Prelude.{Some, if◌then◌else◌}
-use Rattle.h2_frames.specs.declared.code.ErrorCode.{ErrorCode}
 use Rattle.h2_frames.specs.declared.frame.FrameBody.{FrameBody}
 use Rattle.h2_exchange.specs.Events.{Reset}
 use Rattle.h2_exchange.specs.Frames.{stream_of}
 use Rattle.h2_streams.specs.Laws.{with_malformed}
 use Rattle.h2_conn.specs.Hears.{Taken}
-use Rattle.h2_conn.specs.Receiving.{passed, with_reset_of}
-use Rattle.h2_conn.specs.State.{State, state_of}
+use Rattle.h2_conn.specs.Receiving.{with_reset_of}
+use Rattle.h2_conn.specs.State.{state_of}
 use Rattle.h2_conn.proofs.BlockHeard.{faulty_taken, longf}
 use Rattle.h2_conn.proofs.conn.H2Conn.on_faulty_fields.Goals as goal
 

@@ -1,10 +1,8 @@
-use Rattle.std.proofs.Common.{◌≡◌, ℕ, ◌∷◌, [], true, false, Bool, List, ap, sym, subst, ◌∙◌, refl}
-use Rattle.hpack_tables.specs.declared.field.Field.{Field}
+use Rattle.std.proofs.Common.{◌≡◌, ◌∷◌, [], ap, sym, subst, ◌∙◌, refl}
 use Rattle.h2_frames.specs.declared.frame.FrameBody.{FrameBody}
 use Rattle.h2_frames.specs.declared.code.TheConstants.ErrorCode as code
 use Rattle.h2_exchange.specs.declared.role.Role.{Role}
 use Rattle.h2_exchange.specs.Events.{Reset}
-use Rattle.h2_exchange.specs.Frames.{stream_of}
 use Rattle.h2_conn.specs.declared.heard.Took.{Took}
 use Rattle.h2_conn.specs.HeaderParts.{block_tells, is_long, is_malformed_by, with_block}
 use Rattle.h2_conn.specs.Hears.{Taken, TookSo}

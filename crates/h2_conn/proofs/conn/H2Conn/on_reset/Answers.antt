@@ -1,12 +1,12 @@
-use Rattle.std.proofs.Common.{◌≡◌, ℕ, ◌∷◌, [], true, false, Bool, ap, sym, subst, ◌∙◌}
+use Rattle.std.proofs.Common.{◌∷◌, [], ap, sym, subst, ◌∙◌}
 use Rattle.h2_frames.specs.declared.frame.FrameBody.{FrameBody}
 use Rattle.h2_frames.specs.declared.code.ErrorCode.{ErrorCode}
 use Rattle.h2_exchange.specs.Events.{Reset}
 use Rattle.h2_exchange.specs.Frames.{stream_of}
 use Rattle.h2_conn.specs.Hears.{Taken}
-use Rattle.h2_conn.specs.Receiving.{passed, with_cut}
+use Rattle.h2_conn.specs.Receiving.{with_cut}
 use Rattle.h2_conn.specs.State.{State, state_of}
-use Rattle.h2_conn.specs.Watching.{Watch, cut_on}
+use Rattle.h2_conn.specs.Watching.{cut_on}
 use Rattle.h2_conn.proofs.Facts.{not_true, not_false}
 use Rattle.h2_conn.proofs.Loose.{reset_is}
 use Rattle.h2_conn.proofs.ResetHeard.{dead_quiet, reset_taken, reset_ends}

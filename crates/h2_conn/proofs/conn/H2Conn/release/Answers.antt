@@ -1,7 +1,6 @@
-use Rattle.std.proofs.Common.{sym, ap, subst, drop, ◌∙◌, List, ℕ}
-use Rattle.h2_conn.specs.Crediting.{ahead_in, Credits}
-use Rattle.h2_conn.specs.State.{State, state_of, refusal_by}
-use Rattle.h2_conn.proofs.Releasing.{ahead_all, first_credits, releases, whole_again}
+use Rattle.std.proofs.Common.{ap, drop, List, ℕ}
+use Rattle.h2_conn.specs.State.{state_of, refusal_by}
+use Rattle.h2_conn.proofs.Releasing.{releases, whole_again}
 use Rattle.h2_conn.proofs.conn.H2Conn.release.Goals as goal
 
 pub returns-clause-ok : goal.returns-clause-ok

@@ -1,5 +1,4 @@
 use Rattle.std.proofs.Common.{ap, ◌∙◌, arith, ◌<◌}
-use Rattle.std.specs.Vec.{vec_capacity}
 use Rattle.h2_streams.specs.declared.live.Stream.{Stream}
 use Rattle.h2_streams.specs.Set.{Set}
 use Rattle.h2_streams.proofs.Ordered.{kept_begun}

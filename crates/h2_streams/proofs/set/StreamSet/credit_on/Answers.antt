@@ -9,7 +9,7 @@ use Rattle.h2_streams.proofs.set.StreamSet.credit_on.Goals as goal
 pub invariant_of-self : goal.invariant_of-self
 invariant_of-self c =
     rw (c.put.ensures.items, c.put.ensures.capacity) (
-    place_put c.self.inside.role c.self.inside.limits.streams (vec_capacity c.self.inside.live) (option_map (λ b. (b.stream, b.last)) c.self.inside.block) c.args.stream c.in-Some.found _ c.self.inside.live.items
-      (ap (λ (s : Set). at c.args.stream s) c.self.view_is ∙ sym c.met.ensures ∙ c.in-Some.is) refl refl c.self.invariant.0,
-      rises_put (c.self.inside.highest + 1) c.args.stream c.in-Some.found _ c.self.inside.live.items (ap (λ (s : Set). at c.args.stream s) c.self.view_is ∙ sym c.met.ensures ∙ c.in-Some.is) refl c.self.invariant.1
+      place_put c.self.inside.role c.self.inside.limits.streams (vec_capacity c.self.inside.live) (option_map (λ b. (b.stream, b.last)) c.self.inside.block) c.args.stream c.in-Some.found _ c.self.inside.live.items
+          (ap (λ (s : Set). at c.args.stream s) c.self.view_is ∙ sym c.met.ensures ∙ c.in-Some.is) refl refl c.self.invariant.0,
+      rises_put (c.self.inside.highest + 1) c.args.stream c.in-Some.found _ c.self.inside.live.items (ap (λ (s : Set). at c.args.stream s) c.self.view_is ∙ sym c.met.ensures ∙ c.in-Some.is) refl c.self.invariant.1,
     )

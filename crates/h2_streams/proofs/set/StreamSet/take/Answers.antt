@@ -19,8 +19,8 @@ send_behind-self-inside-requires-clause-fits c = send_fits _ c.args.self.now c.a
 pub invariant_of-self : goal.invariant_of-self
 invariant_of-self c =
     rw c.apply_outcome.ensures.capacity (
-    keeps_here _ c.args.self.now c.args.frame.now (vec_capacity c.self.inside.live) c.body.result.now.stream c.args.is_new c.outcome-outcome.result c.args.fault c.args.seen (option_map (λ b. (b.stream, b.last)) c.left_open-self-inside.result) c.apply_outcome.new.live.items
-    c.self.view_is c.requires.sound (ap (λ (b : FrameBody). b.stream) c.body.ensures) c.requires.is_new c.requires.seen c.requires.fault c.outcome-outcome.ensures c.left_open-self-inside.ensures c.apply_outcome.ensures.items (omega (arith, c.self.inside.live.ok.0, c.self.inside.live.ok.1)) c.self.invariant.0,
+      keeps_here _ c.args.self.now c.args.frame.now (vec_capacity c.self.inside.live) c.body.result.now.stream c.args.is_new c.outcome-outcome.result c.args.fault c.args.seen (option_map (λ b. (b.stream, b.last)) c.left_open-self-inside.result) c.apply_outcome.new.live.items
+          c.self.view_is c.requires.sound (ap (λ (b : FrameBody). b.stream) c.body.ensures) c.requires.is_new c.requires.seen c.requires.fault c.outcome-outcome.ensures c.left_open-self-inside.ensures c.apply_outcome.ensures.items (omega (arith, c.self.inside.live.ok.0, c.self.inside.live.ok.1)) c.self.invariant.0,
       rises_here _ c.args.self.now c.args.frame.now c.body.result.now.stream c.highest_behind-self-inside.result c.args.is_new c.outcome-outcome.result c.args.fault c.args.seen c.apply_outcome.new.live.items
-      c.self.view_is (ap (λ (b : FrameBody). b.stream) c.body.ensures) c.requires.is_new c.requires.seen c.outcome-outcome.ensures c.apply_outcome.ensures.items c.highest_behind-self-inside.ensures c.self.invariant.1
+          c.self.view_is (ap (λ (b : FrameBody). b.stream) c.body.ensures) c.requires.is_new c.requires.seen c.outcome-outcome.ensures c.apply_outcome.ensures.items c.highest_behind-self-inside.ensures c.self.invariant.1,
     )
