@@ -9,7 +9,7 @@ use Rattle.rig_io.specs.Fault.{HasRisen}
 use Rattle.reactor.specs.Turns.{ReactorItems}
 use Rattle.table_lock.specs.declared.machine.Entry.{Entry}
 use Rattle.table_lock.specs.declared.view.Item.{Item}
-use Rattle.table_lock.specs.Passes.{PassView, item}
+use Rattle.table_lock.specs.Passes.{IsPassOf, IsSound, LockView, PassView, item}
 use Rattle.link_serving.specs.declared.course.Came.{Came}
 use Rattle.link_serving.specs.declared.course.Came.TheVariants as came
 use Rattle.link_serving.specs.declared.service.Ended.{Ended}
@@ -19,6 +19,11 @@ use Rattle.link_serving.specs.declared.service.Ended.TheVariants as ended
 abbrev pub Each : {X : Type 0} → (X → Type 0) → List X → Type 0
 Each P [] = Unit {0}
 Each P (x ∷ xs) = P x × Each P xs
+
+-- A service takes each new pass of the lock, and gives passes of the lock back.
+pub record Suits {C R G : Type 0} (lawful : G → List (Entry C R) → Type 0) (lock : LockView G) (takes gives : PassView C R G → Type 0) : Type 0 where
+  pub takes_new : (p : PassView C R G) → IsPassOf lock p → IsSound lawful lock.setup p → p.mine ≡ [] → takes p
+  pub gives_back : (p : PassView C R G) → gives p → IsPassOf lock p
 
 -- ---- the links of an acceptor
 

@@ -1,7 +1,7 @@
 //! The serving of links in one thread, and workers in threads of their own beside it.
 ghost use Rattle.std.specs.Prelude.{◌≡◌, ◌<◌, ◌≤◌, ℕ, All, length, slice_index_or, true};
 ghost use Rattle.table_lock.specs.Passes.{IsPassOf};
-ghost use Rattle.link_serving.specs.Serving.{HasAccepted, links_of, start_at};
+ghost use Rattle.link_serving.specs.Serving.{HasAccepted, Suits, links_of, start_at};
 ghost use Rattle.link_serving.specs.Beside.{HasServed};
 
 use crate::course::Tally;
@@ -46,7 +46,7 @@ pub fn serve_and_halt<
     M: Machine,
     A: Acceptor,
     T: Turning + Drop,
-    V: Service<M, A::Link, T>,
+    V: Service<Pass<M>, M::Command, A::Link, T>,
     R: Wait,
 >(
     rt: &R,
@@ -56,7 +56,7 @@ pub fn serve_and_halt<
     acceptor: &mut A,
     service: &mut V,
 ) -> Tally
-    requires lock { lock.now ≡ V.lock }
+    requires suits { Suits M.lawful lock.now V.takes V.gives }
     requires root { IsPassOf lock.now root.old × (root.old.number ≡ 0) }
     requires took { A.retired_count acceptor.old ≤ A.given_count acceptor.old }
     ensures root { IsPassOf lock.now root.new × (root.new.number ≡ 0) }
@@ -82,7 +82,7 @@ pub fn serve_beside<
     M: Machine,
     A: Acceptor,
     T: Turning + Drop,
-    V: Service<M, A::Link, T>,
+    V: Service<Pass<M>, M::Command, A::Link, T>,
     W: Beside + Send,
     R: Threads + Wait + Sync,
 >(
@@ -94,7 +94,7 @@ pub fn serve_beside<
     service: &mut V,
     workers: &mut [W],
 ) -> Tally
-    requires lock { lock.now ≡ V.lock }
+    requires suits { Suits M.lawful lock.now V.takes V.gives }
     requires root { IsPassOf lock.now root.old × (root.old.number ≡ 0) }
     requires took { A.retired_count acceptor.old ≤ A.given_count acceptor.old }
     requires ready { All W.ready workers.old }
@@ -116,7 +116,7 @@ pub fn serve_beside<
                 W.ran (slice_index_or workers.entry.now i d) (slice_index_or workers.exit.now i d) }
         { run_beside(rt, workers) },
         &mut || -> Tally
-            requires { (lock.now ≡ V.lock) × IsPassOf lock.now root.now × (root.now.number ≡ 0)
+            requires { Suits M.lawful lock.now V.takes V.gives × IsPassOf lock.now root.now × (root.now.number ≡ 0)
                 × (A.retired_count acceptor.now ≤ A.given_count acceptor.now) }
             ensures root { IsPassOf lock.entry.now root.exit.now × (root.exit.now.number ≡ 0) }
             ensures serves { HasServed M.lawful lock.entry.now.setup V.served V.halt

@@ -1,7 +1,7 @@
 //! The serving of links, in one thread.
 ghost use Rattle.std.specs.Prelude.{◌≡◌, ◌+◌, ◌<◌, ◌≤◌, ◌||◌, [], ℕ, Bool, true, false, length};
 ghost use Rattle.table_lock.specs.Passes.{IsPassOf};
-ghost use Rattle.link_serving.specs.Serving.{AreServed, HasAccepted, HasBegun, IsTakenBack, Links, ServesItems, Start, ends, fails};
+ghost use Rattle.link_serving.specs.Serving.{AreServed, HasAccepted, HasBegun, IsTakenBack, Links, ServesItems, Start, Suits, ends, fails};
 ghost use Rattle.link_serving.specs.Serving.{links_of, refuses, start_at};
 
 use crate::course::{Came, Course, Tally};
@@ -37,7 +37,7 @@ fn take_back<M: Machine, A: Acceptor>(
 }
 
 // Takes in a new link, or gives it back at once for want of memory.
-fn adopt<M: Machine, A: Acceptor, T: Turning + Drop, V: Service<M, A::Link, T>>(
+fn adopt<M: Machine, A: Acceptor, T: Turning + Drop, V: Service<Pass<M>, M::Command, A::Link, T>>(
     lock: &TableLock<M>,
     root: &mut Pass<M>,
     acceptor: &mut A,
@@ -45,7 +45,7 @@ fn adopt<M: Machine, A: Acceptor, T: Turning + Drop, V: Service<M, A::Link, T>>(
     turns: &mut Reactor<T>,
     link: A::Link,
 ) -> Came
-    requires lock { lock.now ≡ V.lock }
+    requires suits { Suits M.lawful lock.now V.takes V.gives }
     requires root { IsPassOf lock.now root.old × (root.old.number ≡ 0) }
     requires took { A.retired_count acceptor.old < A.given_count acceptor.old }
     ensures root { IsPassOf lock.now root.new × (root.new.number ≡ 0) }
@@ -78,14 +78,14 @@ fn adopt<M: Machine, A: Acceptor, T: Turning + Drop, V: Service<M, A::Link, T>>(
 }
 
 // Takes in one new link, if one is there.
-fn accept_one<M: Machine, A: Acceptor, T: Turning + Drop, V: Service<M, A::Link, T>>(
+fn accept_one<M: Machine, A: Acceptor, T: Turning + Drop, V: Service<Pass<M>, M::Command, A::Link, T>>(
     lock: &TableLock<M>,
     root: &mut Pass<M>,
     acceptor: &mut A,
     service: &mut V,
     turns: &mut Reactor<T>,
 ) -> Came
-    requires lock { lock.now ≡ V.lock }
+    requires suits { Suits M.lawful lock.now V.takes V.gives }
     requires root { IsPassOf lock.now root.old × (root.old.number ≡ 0) }
     requires took { A.retired_count acceptor.old + (length turns.old.live + length turns.old.over) ≤ A.given_count acceptor.old }
     ensures root { IsPassOf lock.now root.new × (root.new.number ≡ 0) }
@@ -108,7 +108,7 @@ fn accept_one<M: Machine, A: Acceptor, T: Turning + Drop, V: Service<M, A::Link,
 }
 
 // Takes in new links, at most so many. It asks for one also where accepting has ended: an acceptor may look after its links then.
-fn accept<M: Machine, A: Acceptor, T: Turning + Drop, V: Service<M, A::Link, T>>(
+fn accept<M: Machine, A: Acceptor, T: Turning + Drop, V: Service<Pass<M>, M::Command, A::Link, T>>(
     lock: &TableLock<M>,
     root: &mut Pass<M>,
     acceptor: &mut A,
@@ -116,7 +116,7 @@ fn accept<M: Machine, A: Acceptor, T: Turning + Drop, V: Service<M, A::Link, T>>
     turns: &mut Reactor<T>,
     course: &mut Course,
 )
-    requires lock { lock.now ≡ V.lock }
+    requires suits { Suits M.lawful lock.now V.takes V.gives }
     requires root { IsPassOf lock.now root.old × (root.old.number ≡ 0) }
     requires took { A.retired_count acceptor.old + (length turns.old.live + length turns.old.over) ≤ A.given_count acceptor.old }
     ensures root { IsPassOf lock.now root.new × (root.new.number ≡ 0) }
@@ -142,7 +142,7 @@ fn accept<M: Machine, A: Acceptor, T: Turning + Drop, V: Service<M, A::Link, T>>
 }
 
 // Takes out every item that is over, and gives its link back.
-fn drain<M: Machine, A: Acceptor, T: Turning + Drop, V: Service<M, A::Link, T>>(
+fn drain<M: Machine, A: Acceptor, T: Turning + Drop, V: Service<Pass<M>, M::Command, A::Link, T>>(
     lock: &TableLock<M>,
     root: &mut Pass<M>,
     acceptor: &mut A,
@@ -150,7 +150,7 @@ fn drain<M: Machine, A: Acceptor, T: Turning + Drop, V: Service<M, A::Link, T>>(
     turns: &mut Reactor<T>,
     course: &mut Course,
 )
-    requires lock { lock.now ≡ V.lock }
+    requires suits { Suits M.lawful lock.now V.takes V.gives }
     requires root { IsPassOf lock.now root.old × (root.old.number ≡ 0) }
     requires took { A.retired_count acceptor.old + (length turns.old.live + length turns.old.over) ≤ A.given_count acceptor.old }
     ensures root { IsPassOf lock.now root.new × (root.new.number ≡ 0) }
@@ -184,7 +184,7 @@ fn give_way(came: bool, progressed: u64) {
 /// that is not over has one turn.
 ///
 /// Accepting ends where the acceptor answers Closed or Failed. A link for which memory is wanting is given back at once.
-pub fn serve_links<M: Machine, A: Acceptor, T: Turning + Drop, V: Service<M, A::Link, T>, R: Wait>(
+pub fn serve_links<M: Machine, A: Acceptor, T: Turning + Drop, V: Service<Pass<M>, M::Command, A::Link, T>, R: Wait>(
     rt: &R,
     alloc: Global,
     lock: &TableLock<M>,
@@ -192,7 +192,7 @@ pub fn serve_links<M: Machine, A: Acceptor, T: Turning + Drop, V: Service<M, A::
     acceptor: &mut A,
     service: &mut V,
 ) -> Tally
-    requires lock { lock.now ≡ V.lock }
+    requires suits { Suits M.lawful lock.now V.takes V.gives }
     requires root { IsPassOf lock.now root.old × (root.old.number ≡ 0) }
     requires took { A.retired_count acceptor.old ≤ A.given_count acceptor.old }
     ensures root { IsPassOf lock.now root.new × (root.new.number ≡ 0) }
