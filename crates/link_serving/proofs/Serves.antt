@@ -237,11 +237,11 @@ module _ {T L : Type 0} (origin : T → L → Type 0) where
   made_moved items items' links p h =
       IsPermutation-keeps items (λ (l : List T). Moved l links) (record { now = links; made = h; moved = IsPermutation-refl links })
       (λ l i j a b m.
-          let size : length m.now ≡ length l = made_size l m.now m.made in record {
-            now = swap m.now i j;
-            made = made_swap l m.now i j a b m.made;
-            moved = IsPermutation-trans links m.now (swap m.now i j) m.moved (IsPermutation-swap m.now (swap m.now i j) i j (omega (arith, size, a)) (omega (arith, size, b)) refl);
-          }) items' p
+      let size : length m.now ≡ length l = made_size l m.now m.made in record {
+        now = swap m.now i j;
+        made = made_swap l m.now i j a b m.made;
+        moved = IsPermutation-trans links m.now (swap m.now i j) m.moved (IsPermutation-swap m.now (swap m.now i j) i j (omega (arith, size, a)) (omega (arith, size, b)) refl);
+      }) items' p
 
   -- an item in front, moved to its place
   made_under : (front behind : List T) (x : T) (links : List L) (l : L) (m : Moved (front ++ behind) links) → origin x l → Moved (front ++ x ∷ behind) (l ∷ links)

@@ -23,6 +23,7 @@ pub trait Service<P, C, L, T: Turning> {
 
     /// The passes that it takes, and those that it gives back.
     ghost takes: { P → Type 0 };
+
     ghost gives: { P → Type 0 };
 
     /// The item was made of this link, as it was given.

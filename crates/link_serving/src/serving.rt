@@ -78,7 +78,12 @@ fn adopt<M: Machine, A: Acceptor, T: Turning + Drop, V: Service<Pass<M>, M::Comm
 }
 
 // Takes in one new link, if one is there.
-fn accept_one<M: Machine, A: Acceptor, T: Turning + Drop, V: Service<Pass<M>, M::Command, A::Link, T>>(
+fn accept_one<
+    M: Machine,
+    A: Acceptor,
+    T: Turning + Drop,
+    V: Service<Pass<M>, M::Command, A::Link, T>,
+>(
     lock: &TableLock<M>,
     root: &mut Pass<M>,
     acceptor: &mut A,
@@ -184,7 +189,13 @@ fn give_way(came: bool, progressed: u64) {
 /// that is not over has one turn.
 ///
 /// Accepting ends where the acceptor answers Closed or Failed. A link for which memory is wanting is given back at once.
-pub fn serve_links<M: Machine, A: Acceptor, T: Turning + Drop, V: Service<Pass<M>, M::Command, A::Link, T>, R: Wait>(
+pub fn serve_links<
+    M: Machine,
+    A: Acceptor,
+    T: Turning + Drop,
+    V: Service<Pass<M>, M::Command, A::Link, T>,
+    R: Wait,
+>(
     rt: &R,
     alloc: Global,
     lock: &TableLock<M>,

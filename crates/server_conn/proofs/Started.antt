@@ -1,0 +1,48 @@
+-- A new connection, and what is counted of one.
+use Rattle.std.proofs.Common.{◌≡◌, ℕ, ◌-◌, ◌^◌, min, Bool, true, false, List, [], Option, Some, None, refl}
+use Rattle.std.specs.List.{flat_map}
+use Rattle.h2_exchange.specs.declared.limits.H2Limits.{H2Limits}
+use Rattle.h2_exchange.specs.declared.role.Role.TheVariants.{Server}
+use Rattle.h2_frames.specs.declared.frame.Frame.{Frame}
+use Rattle.http_connection.specs.ConnectionTrace.{IsNew, begun}
+use Rattle.grpc_stream.specs.CallTrace.{CallTrace, IsSoundCallTrace, fresh}
+use Rattle.call_answers.specs.declared.orders.Setting.{Setting}
+use Rattle.session_engine.specs.Queries.{OpenCallsView, call_on}
+use Rattle.server_turns.specs.declared.outcome.Outcome.{Outcome}
+use Rattle.server_turns.specs.Past.{Past, nothing}
+use Rattle.server_turns.specs.Serving.{Account, IsServerLimits, refused_in}
+use Rattle.server_account.specs.Agreeing.{account_of}
+use Rattle.server_conn.specs.Standing.{Goes, StandsAs}
+use Rattle.server_conn.proofs.Accounts.{agreement_serves, connection_starts}
+use Rattle.server_conn.proofs.Served.{false_true}
+
+pub none_refused : (s : Setting) → 0 ≡ min (refused_in s []) (2 ^ 64 - 1)
+unfolding refused_in
+none_refused s = refl
+
+module _ {K : Type 0} (uses : K → CallTrace → Type 0) (output : K → List ℕ) (s : Setting) where
+  pub new_stands : (calls : K) (open_calls : OpenCallsView) (limits : H2Limits) → ((calls : K) (t : CallTrace) → uses calls t → IsSoundCallTrace t (output calls)) →
+      ((id : ℕ) → call_on open_calls id ≡ None) → IsServerLimits limits → IsNew Server limits (λ c. uses calls (fresh c s.numbering)) →
+      (a : Account) × StandsAs uses output s calls open_calls 0 false None nothing a None
+  new_stands calls open_calls limits sound none fit h =
+      (let t = fresh (begun Server limits h.0) s.numbering in
+      let c = connection_starts s limits h.0 (output calls) open_calls fit h.1 (sound calls t h.2) none in (
+        account_of t (output calls) [] [],
+        (
+          record {
+            trace = t;
+            works = record { used = h.2; alive = refl; agrees = c.0; count = none_refused s };
+            account = refl;
+            settled = c.1;
+            ended = refl;
+            whole = λ e. false_true e;
+            serves = agreement_serves s t (output calls) [] open_calls nothing [] c.0 c.1 (λ e. false_true e);
+          },
+          refl,
+        ),
+      ))
+
+  pub counts_as : (calls : K) (open_calls : OpenCallsView) (refused : ℕ) (is_ended : Bool) (kept : Option Outcome) (past : Past) (a : Account)
+      (outcome : Option Outcome) → StandsAs uses output s calls open_calls refused is_ended kept past a outcome → refused ≡ min (refused_in s a.actions) (2 ^ 64 - 1)
+  counts_as calls open_calls refused is_ended kept past a None h = h.0.works.count
+  counts_as calls open_calls refused is_ended kept past a (Some outcome) h = h.0.count

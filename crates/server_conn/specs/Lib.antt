@@ -1,0 +1,5 @@
+pub mod Standing
+pub mod Steps
+pub mod Turns
+pub mod Gathering
+pub mod Handing
