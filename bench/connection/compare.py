@@ -34,4 +34,5 @@ def main() -> None:
         compare(word, [str(plain), word], [str(proved), word])
 
 
-main()
+if __name__ == "__main__":
+    main()
