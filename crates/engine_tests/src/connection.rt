@@ -161,7 +161,7 @@ impl OneConnection {
             .collect(rt, &self.lock, &mut self.pass, &self.setting, stream)
         {
             Err(_) => None,
-            Ok(step) => Some(step),
+            Ok((step, _)) => Some(step),
         }
     }
 

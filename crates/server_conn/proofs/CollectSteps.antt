@@ -10,7 +10,7 @@ use Rattle.grpc_heads.specs.CallEnd.{CallEnd}
 use Rattle.grpc_heads.specs.declared.head.Method.{Method}
 use Rattle.h2_exchange.specs.Calls.{Call}
 use Rattle.h2_exchange.specs.StreamParts.{Item}
-use Rattle.h2_exchange.proofs.Places.{first_true, same_self, second_true}
+use Rattle.h2_exchange.proofs.Places.{first_true, or_parts, same_self, second_true}
 use Rattle.grpc_stream.specs.CallTrace.{CallTrace, Asked, begins_on}
 use Rattle.table_lock.specs.Passes.{IsSound, PassView}
 use Rattle.table_lock.proofs.Extends.{extended_none}
@@ -21,7 +21,7 @@ use Rattle.table_model.specs.declared.reply.Reply.{Reply}
 use Rattle.table_model.specs.Event.{Event}
 use Rattle.call_answers.specs.declared.orders.Setting.{Setting}
 use Rattle.call_orders.specs.Actions.{IsCollected, calls_in}
-use Rattle.call_orders.specs.Calls.{Action, CallState, Collects, Modifies, NotBegun, Over, Standing, after, standing}
+use Rattle.call_orders.specs.Calls.{Action, CallState, Collects, Modifies, NotBegun, Over, Standing, after, standing, without_leaves}
 use Rattle.call_orders.specs.Owed.{has_end}
 use Rattle.call_orders.proofs.Counts.{standing_here}
 use Rattle.call_orders.proofs.Doing.{Each}
@@ -31,24 +31,24 @@ use Rattle.session_engine.specs.declared.open_calls.OpenCall.TheVariants as open
 use Rattle.session_engine.specs.declared.step.Step.{Step}
 use Rattle.session_engine.specs.Laws.{FollowsBy}
 use Rattle.session_engine.specs.Queries.{OpenCallsView, call_on, is_asking, session_in}
-use Rattle.session_engine.specs.Stands.{AreSameElsewhere, DoesAction, IsSpentIn, IsUnended, Stands, items_in}
+use Rattle.session_engine.specs.Stands.{AreSameElsewhere, DoesAction, IsSpentIn, IsUnended, Stands, items_in, leaves_by}
 use Rattle.session_engine.proofs.Follows.{actions_follow, spent_follows}
 use Rattle.server_turns.specs.declared.outcome.Outcome.TheVariants as over
 use Rattle.server_turns.specs.Making.{MadeLast, Makes}
-use Rattle.server_turns.specs.Past.{collects, is_progress, leaves_some}
+use Rattle.server_turns.specs.Past.{awaits_from, collects, is_progress, leaves_some}
 use Rattle.server_turns.proofs.Runs.{makes_then}
 use Rattle.server_account.specs.Agreeing.{IsSettled}
 use Rattle.server_conn.specs.declared.conn.Cause.{Cause}
 use Rattle.server_conn.specs.declared.conn.Cause.TheVariants.{Ends, Spent}
-use Rattle.server_conn.specs.Gathering.{CollectsBelow, CollectsOne}
-use Rattle.server_conn.specs.Standing.{EndsBy, Works, is_spent_by, past_of}
-use Rattle.server_conn.specs.Steps.{CollectsAll, GoesTo, IsNoMore, Owes, StopsBy, has_items}
+use Rattle.server_conn.specs.Gathering.{CollectsBelow, CollectsOne, IsCleared}
+use Rattle.server_conn.specs.Standing.{EndsBy, NoneWaits, Works, is_spent_by, past_of}
+use Rattle.server_conn.specs.Steps.{CollectsAll, CollectsDue, GoesTo, IsNoMore, Owes, StopsBy, has_items}
 use Rattle.server_conn.proofs.Gathered.{owes_collect}
 use Rattle.server_conn.proofs.Grown.{grows_refl, grows_then, made_more, may_end_from}
 use Rattle.server_conn.proofs.HeardOf.{told_begun}
 use Rattle.server_conn.proofs.MayEnd.{no_memory_settled}
 use Rattle.server_conn.proofs.NextResponse.{grows_same, no_more_same, no_more_then, settled_same}
-use Rattle.server_conn.proofs.OneCollect.{Shows, collect_quiet, collect_shows}
+use Rattle.server_conn.proofs.OneCollect.{Shows, collect_clears, collect_quiet, collect_shows}
 use Rattle.server_conn.proofs.PartDone.{spent_kept}
 use Rattle.server_conn.proofs.Replies.{IsAnswered, answered, each_behind}
 use Rattle.server_conn.proofs.Tellings.{stops_then}
@@ -120,6 +120,19 @@ module _ (s : Setting) (was now : Option OpenCall) (session : ℕ) (is_finished 
       e ∙ ap (λ (b : Bool). Modifies session b) (ap flag
       (is ∙ (ap session_in (sym (same_call s was now session is_finished is (subst (λ (x : CallState). Stands s now x) e h))) ∙ f)))
 
+  -- one that stays stands as it did
+  stays_as : (b f : Bool) (state : CallState) (n : ℕ) → state ≡ (if b then Over else Modifies session is_finished) → Stands s now state →
+      session_in now ≡ Some (n, f) → (state ≡ Modifies session f) × (session ≡ n)
+  stays_as true f state n e h g = by now (no_session s now (subst (λ (x : CallState). Stands s now x) e h)) g
+    where
+      by : (call : Option OpenCall) → call ≡ None → session_in call ≡ Some (n, f) → (state ≡ Modifies session f) × (session ≡ n)
+      by None e g = absurd cc
+      by (Some call) e g = absurd cc
+  stays_as false f state n e h g = (e ∙ ap (λ (b : Bool). Modifies session b) (ap flag same), ap number same)
+    where
+      same : ◌≡◌ {A = Option (ℕ × Bool)} (Some (session, is_finished)) (Some (n, f))
+      same = is ∙ (ap session_in (sym (same_call s was now session is_finished is (subst (λ (x : CallState). Stands s now x) e h))) ∙ g)
+
 -- ---- one session
 
 some_at : {A : Type 0} (o : Option A) → is_some o ≡ true → (x : A) × (o ≡ Some x)
@@ -130,7 +143,9 @@ module _ {K : Type 0} (uses : K → CallTrace → Type 0) (output : K → List �
     (calls : K) (old new : OpenCallsView) (refused stream : ℕ) (step : Step) (t : CallTrace) (actions : List Action) (pieces : List Piece)
     (own : List Event) (rest : List ℕ) (h : Works uses output s calls old refused t actions pieces own) (settled : IsSettled t rest)
     (last : MadeLast p own) (has : is_some (session_in (call_on old stream)) ≡ true)
-    (k : DoesAction IsLawful config s old new p q stream (Stands s (call_on old stream)) (Collects stream) step) where
+    (k : DoesAction IsLawful config s old new p q stream (Stands s (call_on old stream)) (Collects stream) step)
+    (was_left has_left is_left : Bool) (left_is : has_left ≡ list_any (λ e. leaves_by e.reply) (without_leaves k.did))
+    (noted : is_left ≡ (was_left || has_left)) where
   abbrev follows : FollowsBy s new actions stream (Collects stream k.did) (λ _. items_in step)
   follows = actions_follow s old new actions stream (Collects stream k.did) (λ _. items_in step) h.agrees.handled.open_now k.takes k.others (λ cut. refl)
 
@@ -177,9 +192,16 @@ module _ {K : Type 0} (uses : K → CallTrace → Type 0) (output : K → List �
   collects_it : (n : ℕ) (b : Bool) → session_in (call_on old stream) ≡ Some (n, b) → list_any (collects n) k.did ≡ true
   collects_it n b e = subst (λ (m : ℕ). list_any (collects m) k.did ≡ true) (ap number (in_session ∙ e)) shown.done
 
+  clears_it : is_left ≡ false → (n : ℕ) (f : Bool) → session_in (call_on new stream) ≡ Some (n, f) → IsCleared n f k.did
+  clears_it none n f e =
+      (let x = stays_as s (call_on old stream) (call_on new stream) right.session right.is_finished in_session shown.is_over f
+      (after s st action).state n shown.state_is now_stands e in
+      subst (λ (m : ℕ). IsCleared m f k.did) x.1 (collect_clears s config stream st unended k.did follows.cut right fair
+      (sym left_is ∙ (or_parts was_left has_left (sym noted ∙ none)).1) f x.0))
+
   pub collects_one : (later : K) (refused_now : ℕ) (u : CallTrace) (has_any : Bool) → u.connection_trace ≡ t.connection_trace → u.reported ≡ t.reported →
       Works uses output s later new refused_now u (action ∷ actions) pieces (own ++ k.did) → has_any ≡ has_items (items_in step) →
-      CollectsOne uses output s config p q later old new refused_now stream t pieces own has_any
+      CollectsOne uses output s config p q later old new refused_now stream was_left is_left t pieces own has_any
   collects_one later refused_now u has_any same reported works any = record {
     goes = record {
       trace = u;
@@ -195,6 +217,9 @@ module _ {K : Type 0} (uses : K → CallTrace → Type 0) (output : K → List �
     done = collects_it;
     stays = λ n e. shown.stays (stays_so s (call_on old stream) (call_on new stream) right.session right.is_finished in_session shown.is_over
         (after s st action).state n shown.state_is now_stands e);
+    quiet = shown.quiet;
+    kept = λ none. (or_parts was_left has_left (sym noted ∙ none)).0;
+    clear = clears_it;
     fewer = less s (call_on old stream) (call_on new stream) right.session right.is_finished in_session shown.is_over (after s st action).state
         shown.state_is now_stands;
     others = k.others;
@@ -217,7 +242,7 @@ module _ {K : Type 0} (uses : K → CallTrace → Type 0) (output : K → List �
 
   abbrev Comes : OpenCallsView → K → ℕ → Bool → Result Bool Cause → Type 0
   Comes now later refused_now is_ended result =
-      IfOk result (λ has_any. CollectsOne uses output s config p q later old now refused_now stream t pieces own has_any)
+      IfOk result (λ has_any. CollectsOne uses output s config p q later old now refused_now stream was_left is_left t pieces own has_any)
       × IfErr result (λ cause. StopsBy uses output s config p q later now refused_now t pieces own is_ended cause)
 
   given_by : (later : K) (refused_now : ℕ) (is_ended : Bool) (result : Result Bool Cause) → IfErr result (λ cause. is_spent_by cause ≡ false) →
@@ -249,6 +274,11 @@ collect_spent uses output s config p q calls old new refused stream t actions pi
 
 -- ---- one after another
 
+pub awaits_then : (awaits : Bool) (session : ℕ) (did more : List Event) →
+    awaits_from awaits session (did ++ more) ≡ awaits_from (awaits_from awaits session did) session more
+awaits_then awaits session [] more = refl
+awaits_then awaits session (e ∷ es) more = awaits_then (awaits_from awaits session (e ∷ [])) session es more
+
 abbrev or_zero : Option ℕ → ℕ
 or_zero (Some n) = n
 or_zero None = 0
@@ -267,10 +297,10 @@ pub least_by : (calls : OpenCallsView) (from stream : ℕ) →
 least_by calls from stream first id more has = let x = first id more has in subst (λ (k : ℕ). k ≤ id) (sym (ap or_zero x.1)) x.2
 
 module _ {K : Type 0} (uses : K → CallTrace → Type 0) (output : K → List ℕ) (s : Setting) (config : Config) where
-  pub none_below : (p : PassView Command Reply Config) (calls : K) (open_calls : OpenCallsView) (refused : ℕ) (t : CallTrace) (actions : List Action)
-      (pieces : List Piece) (own : List Event) → IsSound IsLawful config p → Works uses output s calls open_calls refused t actions pieces own →
-      CollectsBelow uses output s config 0 p p calls open_calls open_calls refused t pieces own false
-  none_below p calls open_calls refused t actions pieces own sound h = record {
+  pub none_below : (p : PassView Command Reply Config) (calls : K) (open_calls : OpenCallsView) (refused : ℕ) (is_left : Bool) (t : CallTrace)
+      (actions : List Action) (pieces : List Piece) (own : List Event) → IsSound IsLawful config p → Works uses output s calls open_calls refused t actions pieces own →
+      CollectsBelow uses output s config 0 p p calls open_calls open_calls refused is_left t pieces own false
+  none_below p calls open_calls refused is_left t actions pieces own sound h = record {
     goes = record {
       trace = t;
       grows = grows_refl t;
@@ -284,6 +314,8 @@ module _ {K : Type 0} (uses : K → CallTrace → Type 0) (output : K → List �
     moved = refl;
     done = λ id session is_finished below e. absurd (below_none id below);
     stays = λ id session below e. absurd (below_none id below);
+    quiet = λ session. refl;
+    clear = λ none id session is_finished below e. absurd (below_none id below);
     to_come = λ id within. refl;
     fewer = λ id. no_more_same (call_on open_calls id) (call_on open_calls id) refl;
   }
@@ -293,16 +325,16 @@ module _ {K : Type 0} (uses : K → CallTrace → Type 0) (output : K → List �
 
   -- what is settled stays so
   pub settled_below : (p q : PassView Command Reply Config) (first calls : K) (before open_calls : OpenCallsView) (refused_first refused from : ℕ)
-      (t : CallTrace) (actions : List Action) (pieces : List Piece) (own : List Event) (rest : List ℕ) (moved : Bool) →
+      (is_left : Bool) (t : CallTrace) (actions : List Action) (pieces : List Piece) (own : List Event) (rest : List ℕ) (moved : Bool) →
       Works uses output s first before refused_first t actions pieces own → IsSettled t rest →
-      (k : CollectsBelow uses output s config from p q calls before open_calls refused t pieces own moved) → IsSettled k.goes.trace rest
-  settled_below p q first calls before open_calls refused_first refused from t actions pieces own rest moved h settled k =
+      (k : CollectsBelow uses output s config from p q calls before open_calls refused is_left t pieces own moved) → IsSettled k.goes.trace rest
+  settled_below p q first calls before open_calls refused_first refused from is_left t actions pieces own rest moved h settled k =
       settled_same t k.goes.trace k.connection rest k.reported (k.goes.works.agrees.server.numbers ∙ sym h.agrees.server.numbers) settled
 
   module _ (p q r : PassView Command Reply Config) (mid calls : K) (before between open_calls : OpenCallsView) (refused_mid refused from stream : ℕ)
-      (t : CallTrace) (pieces : List Piece) (own : List Event) (moved has_any : Bool)
-      (h : CollectsBelow uses output s config from p q mid before between refused_mid t pieces own moved)
-      (k : CollectsOne uses output s config q r calls between open_calls refused stream h.goes.trace pieces (own ++ h.goes.did) has_any)
+      (t : CallTrace) (pieces : List Piece) (own : List Event) (moved has_any was_left is_left : Bool)
+      (h : CollectsBelow uses output s config from p q mid before between refused_mid was_left t pieces own moved)
+      (k : CollectsOne uses output s config q r calls between open_calls refused stream was_left is_left h.goes.trace pieces (own ++ h.goes.did) has_any)
       (within : from ≤ stream)
       (least : (id : ℕ) → from ≤ id → is_some (session_in (call_on between id)) ≡ true → stream ≤ id) where
     abbrev both : List Event
@@ -357,6 +389,31 @@ module _ {K : Type 0} (uses : K → CallTrace → Type 0) (output : K → List �
         by (inr (inl is)) = any_second leaves_some (k.stays n (subst (λ (i : ℕ). session_in (call_on open_calls i) ≡ Some (n, true)) (sym is) e))
         by (inr (inr (more, less))) = none_between id n true more less (was (apart_below id less))
 
+    quiet_both : (n : ℕ) → awaits_from false n both ≡ false
+    quiet_both n = awaits_then false n h.goes.did k.goes.did ∙ (ap (λ (b : Bool). awaits_from b n k.goes.did) (h.quiet n) ∙ k.quiet n)
+
+    clear_both : is_left ≡ false → (id n : ℕ) (f : Bool) → id < stream + 1 → session_in (call_on open_calls id) ≡ Some (n, f) → IsCleared n f both
+    clear_both none id n f below e = by (where_is id below)
+      where
+        was : (stream == id) ≡ false → session_in (call_on between id) ≡ Some (n, f)
+        was apart = ap session_in (sym (k.others id apart)) ∙ e
+
+        before_it : IsCleared n f h.goes.did → IsCleared n f both
+        before_it x = (
+          x.0,
+          λ awaits. awaits_then awaits n h.goes.did k.goes.did
+              ∙ (ap (λ (b : Bool). awaits_from b n k.goes.did) (x.1 awaits) ∙ k.quiet n),
+        )
+
+        at_it : IsCleared n f k.goes.did → IsCleared n f both
+        at_it x = (x.0, λ awaits. awaits_then awaits n h.goes.did k.goes.did ∙ x.1 (awaits_from awaits n h.goes.did))
+
+        by : (id < from) ⊎ (stream ≡ id) ⊎ ((from ≤ id) × (id < stream)) → IsCleared n f both
+        by (inl less) =
+            let earlier : id < stream = omega (arith, less, within) in before_it (h.clear (k.kept none) id n f less (was (apart_below id earlier)))
+        by (inr (inl is)) = at_it (k.clear none n f (subst (λ (i : ℕ). session_in (call_on open_calls i) ≡ Some (n, f)) (sym is) e))
+        by (inr (inr (more, less))) = none_between id n f more less (was (apart_below id less))
+
     fewer_both : (id : ℕ) → IsNoMore (call_on before id) (call_on open_calls id)
     fewer_both id = no_more_then (call_on before id) (call_on between id) (call_on open_calls id) (h.fewer id) (by (stream == id) refl)
       where
@@ -365,7 +422,7 @@ module _ {K : Type 0} (uses : K → CallTrace → Type 0) (output : K → List �
         by false e = no_more_same (call_on between id) (call_on open_calls id) (k.others id e)
 
     -- one more
-    pub below_then : CollectsBelow uses output s config (stream + 1) p r calls before open_calls refused t pieces own (moved || has_any)
+    pub below_then : CollectsBelow uses output s config (stream + 1) p r calls before open_calls refused is_left t pieces own (moved || has_any)
     below_then = record {
       goes = record {
         trace = k.goes.trace;
@@ -382,30 +439,41 @@ module _ {K : Type 0} (uses : K → CallTrace → Type 0) (output : K → List �
           ∙ sym (list_any-append is_progress h.goes.did k.goes.did));
       done = done_both;
       stays = stays_both;
+      quiet = quiet_both;
+      clear = clear_both;
       to_come = λ id more. let within_it : from ≤ id = omega (arith, more, within) in k.others id (apart_above id more) ∙ h.to_come id within_it;
       fewer = fewer_both;
     }
 
     pub below_next : (next : ℕ) (now : Bool) → next ≡ stream + 1 → now ≡ (moved || has_any) →
-        CollectsBelow uses output s config next p r calls before open_calls refused t pieces own now
+        CollectsBelow uses output s config next p r calls before open_calls refused is_left t pieces own now
     below_next next now e f =
-        subst (λ (n : ℕ). CollectsBelow uses output s config n p r calls before open_calls refused t pieces own now) (sym e)
-        (subst (λ (b : Bool). CollectsBelow uses output s config (stream + 1) p r calls before open_calls refused t pieces own b) (sym f) below_then)
+        subst (λ (n : ℕ). CollectsBelow uses output s config n p r calls before open_calls refused is_left t pieces own now) (sym e)
+        (subst (λ (b : Bool). CollectsBelow uses output s config (stream + 1) p r calls before open_calls refused is_left t pieces own b) (sym f) below_then)
 
   -- no session is left
-  pub below_all : (p q : PassView Command Reply Config) (calls : K) (before open_calls : OpenCallsView) (refused from : ℕ) (t : CallTrace)
-      (pieces : List Piece) (own : List Event) (moved : Bool) → CollectsBelow uses output s config from p q calls before open_calls refused t pieces own moved →
+  pub below_all : (p q : PassView Command Reply Config) (calls : K) (before open_calls : OpenCallsView) (refused from : ℕ) (is_left : Bool) (t : CallTrace)
+      (pieces : List Piece) (own : List Event) (moved : Bool) →
+      CollectsBelow uses output s config from p q calls before open_calls refused is_left t pieces own moved →
       ((id : ℕ) → from ≤ id → is_some (session_in (call_on open_calls id)) ≡ true → ⊥) →
-      CollectsAll uses output s config p q calls before open_calls refused t pieces own moved
-  below_all p q calls before open_calls refused from t pieces own moved h none = record {
-    goes = h.goes;
-    connection = h.connection;
-    reported = h.reported;
-    moved = h.moved;
-    all = λ id n b e. h.done id n b (by id (nat_lt id from) refl (λ more. none id more (ap is_some (ap session_in (h.to_come id more) ∙ e)))) e;
-    stays = λ id n e. h.stays id n (by id (nat_lt id from) refl (λ more. none id more (ap is_some e))) e;
-    fewer = h.fewer;
-  }
+      (k : CollectsAll uses output s config p q calls before open_calls refused t pieces own moved)
+      × CollectsDue true is_left before open_calls own k.goes.did
+  below_all p q calls before open_calls refused from is_left t pieces own moved h none = (
+    record {
+      goes = h.goes;
+      connection = h.connection;
+      reported = h.reported;
+      moved = h.moved;
+      fewer = h.fewer;
+    },
+    record {
+      all = λ must id n b e. h.done id n b (by id (nat_lt id from) refl (λ more. none id more (ap is_some (ap session_in (h.to_come id more) ∙ e)))) e;
+      stays = λ must id n e. h.stays id n (by id (nat_lt id from) refl (λ more. none id more (ap is_some e))) e;
+      idle = λ was clear id n b e.
+          (let x = h.clear clear id n b (by id (nat_lt id from) refl (λ more. none id more (ap is_some e))) e in
+          (x.0, awaits_then false n own h.goes.did ∙ x.1 (awaits_from false n own)));
+    },
+  )
     where
       by : (id : ℕ) (b : Bool) → nat_lt id from ≡ b → (from ≤ id → ⊥) → id < from
       by id true e out = ltb-true id from e
@@ -413,23 +481,66 @@ module _ {K : Type 0} (uses : K → CallTrace → Type 0) (output : K → List �
 
   -- the next one stops the connection
   pub below_stops : (p q r : PassView Command Reply Config) (mid calls : K) (before between open_calls : OpenCallsView) (refused_mid refused from : ℕ)
-      (t : CallTrace) (pieces : List Piece) (own : List Event) (moved is_ended : Bool) (cause : Cause) →
-      (h : CollectsBelow uses output s config from p q mid before between refused_mid t pieces own moved) →
+      (is_left : Bool) (t : CallTrace) (pieces : List Piece) (own : List Event) (moved is_ended : Bool) (cause : Cause) →
+      (h : CollectsBelow uses output s config from p q mid before between refused_mid is_left t pieces own moved) →
       StopsBy uses output s config q r calls open_calls refused h.goes.trace pieces (own ++ h.goes.did) is_ended cause →
       StopsBy uses output s config p r calls open_calls refused t pieces own is_ended cause
-  below_stops p q r mid calls before between open_calls refused_mid refused from t pieces own moved is_ended cause h k =
+  below_stops p q r mid calls before between open_calls refused_mid refused from is_left t pieces own moved is_ended cause h k =
       stops_then uses output s config p q r mid calls between open_calls refused_mid refused t pieces own h.goes is_ended cause k
 
   -- memory was wanting behind it
   pub below_starved : (p q : PassView Command Reply Config) (first calls : K) (before open_calls : OpenCallsView) (refused_first refused from : ℕ)
-      (t : CallTrace) (actions : List Action) (pieces : List Piece) (own : List Event) (rest : List ℕ) (moved is_ended : Bool) →
+      (is_left : Bool) (t : CallTrace) (actions : List Action) (pieces : List Piece) (own : List Event) (rest : List ℕ) (moved is_ended : Bool) →
       Works uses output s first before refused_first t actions pieces own → IsSettled t rest →
-      CollectsBelow uses output s config from p q calls before open_calls refused t pieces own moved →
+      CollectsBelow uses output s config from p q calls before open_calls refused is_left t pieces own moved →
       StopsBy uses output s config p q calls open_calls refused t pieces own is_ended (Ends over.NoMemory)
-  below_starved p q first calls before open_calls refused_first refused from t actions pieces own rest moved is_ended h settled k = record {
+  below_starved p q first calls before open_calls refused_first refused from is_left t actions pieces own rest moved is_ended h settled k = record {
     did = k.goes.did;
     made = k.goes.made;
     ends = may_end_from s t k.goes.trace k.goes.grows (output calls) open_calls refused (past_of pieces (own ++ k.goes.did) is_ended) over.NoMemory
         (no_memory_settled uses output s calls open_calls refused k.goes.trace k.goes.actions pieces (own ++ k.goes.did) k.goes.works rest
-        (settled_below p q first calls before open_calls refused_first refused from t actions pieces own rest moved h settled k) is_ended);
+        (settled_below p q first calls before open_calls refused_first refused from is_left t actions pieces own rest moved h settled k) is_ended);
   }
+
+  -- no session may have to wait: none is collected
+  pub none_due : (p : PassView Command Reply Config) (calls : K) (open_calls : OpenCallsView) (refused : ℕ) (t : CallTrace) (actions : List Action)
+      (pieces : List Piece) (own : List Event) (must is_left : Bool) → must ≡ false → IsSound IsLawful config p →
+      Works uses output s calls open_calls refused t actions pieces own →
+      (k : CollectsAll uses output s config p p calls open_calls open_calls refused t pieces own false)
+      × CollectsDue must is_left open_calls open_calls own k.goes.did
+  none_due p calls open_calls refused t actions pieces own must is_left off sound h = (
+    record {
+      goes = record {
+        trace = t;
+        grows = grows_refl t;
+        actions = actions;
+        did = [];
+        made = extended_none IsLawful config p sound;
+        works = subst (λ (es : List Event). Works uses output s calls open_calls refused t actions pieces es) (sym (append-nil own)) h;
+      };
+      connection = refl;
+      reported = refl;
+      moved = refl;
+      fewer = λ id. no_more_same (call_on open_calls id) (call_on open_calls id) refl;
+    },
+    record {
+      all = λ on id session is_finished e. clash must on off;
+      stays = λ on id session e. clash must on off;
+      idle = λ idle clear. subst (λ (es : List Event). NoneWaits open_calls es) (sym (append-nil own)) (idle off);
+    },
+  )
+    where
+      clash : {A : Type 0} (b : Bool) → b ≡ true → b ≡ false → A
+      clash true e f = absurd (cc f)
+      clash false e f = absurd (cc e)
+
+  -- each is where that must be
+  pub due_when : {E : Type 0} (p q : PassView Command Reply Config) (calls : K) (before open_calls : OpenCallsView) (refused : ℕ) (t : CallTrace)
+      (pieces : List Piece) (own : List Event) (must is_left : Bool) (result : Result Bool Cause) → must ≡ true →
+      IfOk result (λ moved. (k : CollectsAll uses output s config p q calls before open_calls refused t pieces own moved)
+      × CollectsDue true is_left before open_calls own k.goes.did) × E →
+      IfOk result (λ moved. (k : CollectsAll uses output s config p q calls before open_calls refused t pieces own moved)
+      × CollectsDue must is_left before open_calls own k.goes.did) × E
+  due_when {E} p q calls before open_calls refused t pieces own must is_left result e =
+      subst (λ (b : Bool). IfOk result (λ moved. (k : CollectsAll uses output s config p q calls before open_calls refused t pieces own moved)
+      × CollectsDue b is_left before open_calls own k.goes.did) × E) (sym e)

@@ -16,7 +16,7 @@ use Rattle.server_turns.specs.Making.{MadeLast, Makes}
 use Rattle.server_turns.specs.Past.{Past}
 use Rattle.server_turns.specs.Serving.{Account}
 use Rattle.server_turns.specs.Turning.{Counts, During, GoesOn, IsAnswer, IsFault, KeepsUpUnlessOver, MayFail, behind, is_spent, outcome_of}
-use Rattle.server_conn.specs.Standing.{StandsAs}
+use Rattle.server_conn.specs.Standing.{NoneWaits, StandsAs}
 use Rattle.server_conn.specs.Turns.{TurnsOn, answer_by}
 use Rattle.server_conn.proofs.Grown.{made_more}
 
@@ -45,14 +45,15 @@ made_even config true p q own did last made =
     subst (λ (x : PassView Command Reply Config). MadeLast x (own ++ did)) (sym made.2) m)
 
 module _ {K : Type 0} (uses : K → CallTrace → Type 0) (output : K → List ℕ) (s : Setting) (config : Config) (p q : PassView Command Reply Config)
-    (calls : K) (open_calls : OpenCallsView) (refused waiting : ℕ) (is_ended : Bool) (kept : Option Outcome) (past : Past) (before : Account) (turn : During)
+    (calls : K) (open_calls : OpenCallsView) (refused waiting : ℕ) (is_ended may_wait : Bool) (kept : Option Outcome) (past : Past) (before : Account) (turn : During)
     (from to : Counts) where
   abbrev pub Comes : Account → TurnEnd → Type 0
   Comes after result = Makes config (is_spent (outcome_of result)) p q turn.own
-      × StandsAs uses output s calls open_calls refused is_ended kept (behind turn past) after (outcome_of result)
+      × StandsAs uses output s calls open_calls refused is_ended may_wait kept (behind turn past) after (outcome_of result)
       × GoesOn past before after turn from to × IsAnswer past turn from to result × KeepsUpUnlessOver result s past before after turn waiting from to
 
   pub comes_on : (moved : Bool) (result : TurnEnd) → result ≡ answer_by moved → kept ≡ None →
-      (h : TurnsOn uses output s config p q calls open_calls refused waiting is_ended past before turn moved from to) → Comes h.after result
-  comes_on true result e none h = subst (Comes h.after) (sym e) (h.made, (h.goes, none), h.goes_on, h.answer, h.keeps_up)
-  comes_on false result e none h = subst (Comes h.after) (sym e) (h.made, (h.goes, none), h.goes_on, h.answer, h.keeps_up)
+      (h : TurnsOn uses output s config p q calls open_calls refused waiting is_ended past before turn moved from to) →
+      (may_wait ≡ false → NoneWaits open_calls (past.own ++ turn.own)) → Comes h.after result
+  comes_on true result e none h idle = subst (Comes h.after) (sym e) (h.made, (h.goes, none, idle), h.goes_on, h.answer, h.keeps_up)
+  comes_on false result e none h idle = subst (Comes h.after) (sym e) (h.made, (h.goes, none, idle), h.goes_on, h.answer, h.keeps_up)

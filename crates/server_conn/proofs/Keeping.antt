@@ -1,5 +1,5 @@
 -- How a turn after which a connection goes on is answered, and that it keeps up.
-use Rattle.std.proofs.Common.{◌≡◌, ◌⊎◌, ◌↔◌, ℕ, ◌+◌, ◌-◌, ◌^◌, ◌<◌, ◌≤◌, ◌==◌, ◌||◌, min, Bool, true, false, not, length, List, [], ◌∷◌, ◌++◌, Option, Some, None, is_some, inl, inr, refl, sym, ap, ◌∙◌, subst, append_assoc, append-nil, arith, eqb-true, length-append, map, sum_by, nat_le}
+use Rattle.std.proofs.Common.{◌≡◌, ◌⊎◌, ◌↔◌, ℕ, ◌+◌, ◌-◌, ◌^◌, ◌<◌, ◌≤◌, ◌==◌, ◌||◌, ◌&&◌, min, reverse, Bool, true, false, not, length, List, [], ◌∷◌, ◌++◌, Option, Some, None, is_some, inl, inr, refl, sym, ap, ◌∙◌, subst, append_assoc, append-nil, arith, eqb-true, length-append, map, sum_by, nat_le}
 use Rattle.std.specs.List.{flat_map, list_any}
 use Rattle.std.proofs.lemmas.Bool.Decides.{nat_tests}
 use Rattle.std.proofs.lemmas.Grind.{flat_map-append}
@@ -30,6 +30,7 @@ use Rattle.table_model.specs.declared.command.Command.{Command}
 use Rattle.table_model.specs.declared.command.Config.{Config}
 use Rattle.table_model.specs.declared.reply.Reply.{Reply}
 use Rattle.table_model.specs.Event.{Event}
+use Rattle.table_model.specs.Sessions.{params_of, wants_results}
 use Rattle.call_answers.specs.declared.orders.Setting.{Setting}
 use Rattle.call_orders.specs.Calls.{Action, standing}
 use Rattle.call_orders.specs.Orders.{staying}
@@ -37,22 +38,26 @@ use Rattle.session_engine.specs.Queries.{OpenCallsView, call_on, is_responding, 
 use Rattle.server_turns.specs.declared.outcome.TurnEnd.{TurnEnd}
 use Rattle.server_turns.specs.declared.outcome.TurnEnd.TheVariants.{Idle, Progress}
 use Rattle.server_turns.specs.Making.{MadeLast, Makes}
-use Rattle.server_turns.specs.Past.{Past, collects, is_progress, leaves_some}
+use Rattle.server_turns.specs.Past.{Past, awaits_from, collects, is_progress, leaves_some}
 use Rattle.server_turns.specs.Serving.{Account, EndsWhole, IsAnswered, NoneOpen}
 use Rattle.server_turns.specs.Turning.{unsent, Counts, During, GoesOn, IsAnswer, IsOwedCollect, IsProgress, KeepsUp, behind, moved, written}
 use Rattle.server_account.specs.Agreeing.{IsServer, IsSettled, IsTold, account_of, none_left}
 use Rattle.server_account.specs.Laws.{PumpsKeepUp}
 use Rattle.session_engine.specs.Queries.{is_asking}
 use Rattle.server_conn.specs.declared.conn.Cause.{Cause}
-use Rattle.server_conn.specs.Standing.{EndsBy, Goes, Works, is_spent_by, past_of}
-use Rattle.server_conn.specs.Steps.{CollectsAll, Grows, Holds, IsNoMore, IsPumped, MUCH, Responds, Writes, got}
+use Rattle.server_conn.specs.Standing.{EndsBy, Goes, NoneWaits, Works, is_spent_by, past_of}
+use Rattle.server_conn.specs.Steps.{CollectsAll, CollectsDue, Grows, Holds, IsNoMore, IsPumped, MUCH, Responds, Writes, got}
 use Rattle.server_conn.specs.Turns.{AreAnsweredIfIdle, TakesIn, TurnsLast, TurnsOn, answer_by}
 use Rattle.server_conn.proofs.Accounts.{agreement_serves, one_waits, pumps_keep_up}
 use Rattle.server_conn.proofs.Grown.{grows_then, made_more, prefix_more, prefix_refl}
-use Rattle.server_conn.proofs.Sessions.{In, stays_open}
+use Rattle.server_conn.proofs.Sessions.{In, open_stands, stays_open}
 use Rattle.server_conn.proofs.Served.{is_none, none_open, none_waits, true_false, false_true}
 use Rattle.server_conn.proofs.Turning.{SoFar, begins, gathers, got_bytes, got_sends_none, holds, last_quiet, none_of, puts, received_then, responds, size_got, size_then}
 use Rattle.server_conn.proofs.Turned.{by_contra, choose, credit_unheard, moved_in, or_known, or_right, output_grows, received_got, whole_behind, whole_same}
+
+second_of : (a b : Bool) → (a && b) ≡ true → b ≡ true
+second_of true b e = e
+second_of false b e = absurd (cc e)
 
 -- what is found in a list is in it
 found_in : (n : ℕ) (xs : List ℕ) → list_any (λ other. n == other) xs ≡ true → In n xs
@@ -83,7 +88,10 @@ module _ {K : Type 0} (uses : K → CallTrace → Type 0) (output : K → List �
     (o : Holds uses output s holding open_calls refused (nat_le MUCH waiting) n.trace n.actions (past.pieces ++ got bytes)
     (past.own ++ (k.heard.goes.did ++ m.goes.did)) k.heard.rest)
     (w : Writes uses output s holding calls open_calls refused (changed (λ c. held (nat_le MUCH waiting) (wrote o.credit [] c)) n.trace) n.actions
-    (past.pieces ++ got bytes) put (past.own ++ (k.heard.goes.did ++ m.goes.did)) k.heard.rest has_written writes writes_now) where
+    (past.pieces ++ got bytes) put (past.own ++ (k.heard.goes.did ++ m.goes.did)) k.heard.rest has_written writes writes_now)
+    (was_left must is_left : Bool) (taken : must ≡ false → (has_read ≡ false) × (was_left ≡ false) × (open_heard ≡ open_start))
+    (idle_start : was_left ≡ false → NoneWaits open_start past.own)
+    (due : CollectsDue must is_left open_heard open_collected (past.own ++ k.heard.goes.did) m.goes.did) where
   abbrev first : CallTrace
   first = h.trace
 
@@ -211,6 +219,35 @@ module _ {K : Type 0} (uses : K → CallTrace → Type 0) (output : K → List �
   no_progress e f g (inr (inr x)) =
       true_false (sym x ∙ (ap (λ (es : List Event). list_any is_progress (es ++ m.goes.did)) (k.still e) ∙ (sym m.moved ∙ f)))
 
+  -- ---- no session waits where that is known
+
+  idle_still : must ≡ false → NoneWaits open_start past.own
+  idle_still e = idle_start (taken e).1
+
+  idle_heard : must ≡ false → NoneWaits open_heard (past.own ++ k.heard.goes.did)
+  idle_heard e = subst (λ (o : OpenCallsView). NoneWaits o (past.own ++ k.heard.goes.did)) (sym (taken e).2)
+      (subst (λ (es : List Event). NoneWaits open_start es) (sym (ap (λ (es : List Event). past.own ++ es) (k.still (taken e).0) ∙ append-nil past.own))
+      (idle_still e))
+
+  pub idle_now : is_left ≡ false → NoneWaits open_calls (past.own ++ own)
+  idle_now e = λ id session is_finished at.
+      (let x = due.idle idle_heard e id session is_finished ((n.fewer id).1 session is_finished at) in (
+        x.0,
+        ap (awaits_from false session) (sym (append_assoc past.own k.heard.goes.did m.goes.did)) ∙ x.1,
+      ))
+
+  either_way : {A : Type 0} → (must ≡ true → A) → (must ≡ false → A) → A
+  either_way {A} f g = by must refl
+    where
+      by : (b : Bool) → must ≡ b → A
+      by true e = f e
+      by false e = g e
+
+  -- one that stays with its client's side ended leaves results outstanding
+  stays_left : (id session : ℕ) → session_in (call_on open_collected id) ≡ Some (session, true) → list_any leaves_some m.goes.did ≡ true
+  stays_left id session at = either_way (λ e. due.stays e id session at)
+      (λ e. true_false (idle_heard e id session true ((m.fewer id).1 session true at)).0)
+
   -- no byte waits to be written where the output is empty in the end and nothing was put
   quiet : has_written ≡ false → output calls ≡ [] → length (output holding) ≡ 0
   quiet g empty =
@@ -236,7 +273,7 @@ module _ {K : Type 0} (uses : K → CallTrace → Type 0) (output : K → List �
     outstanding : has_written ≡ false → is_ended ≡ true → output calls ≡ [] → list_any leaves_some m.goes.did ≡ true
     outstanding g ended empty = by_contra (list_any leaves_some m.goes.did) (λ none.
         unserved ended empty (λ id. is_none (call_on open_calls id) ((whole_3 ended).1 id) (no_responses n.enough id)
-        (λ session at. true_false (sym (m.stays id session ((n.fewer id).1 session true at)) ∙ none))))
+        (λ session at. true_false (sym (stays_left id session ((n.fewer id).1 session true at)) ∙ none))))
       where
         no_responses : ((id : ℕ) → is_responding (call_on open_calls id) ≡ false) ⊎ (MUCH ≤ waiting + length (output responded)) →
             (id : ℕ) → is_responding (call_on open_calls id) ≡ false
@@ -336,12 +373,28 @@ module _ {K : Type 0} (uses : K → CallTrace → Type 0) (output : K → List �
 
   collected_now : (session : ℕ) → IsOwedCollect s past before session → list_any (λ other. session == other) (staying (past.own ++ own)) ≡ true →
       list_any (collects session) own ≡ true
-  collected_now session owed stays =
-      (let x = stays_open s config r open_calls n.actions (past.own ++ own) sound (made_more config p r past.own own last so_far.made)
-      so_far.works.agrees.handled.open_now so_far.works.agrees.handled.did session (found_in session (staying (past.own ++ own)) stays) in
-      list_any-append (collects session) k.heard.goes.did m.goes.did ∙ or_right (list_any (collects session) k.heard.goes.did)
-      (list_any (collects session) m.goes.did)
-      (m.all x.0 session x.1 ((m.fewer x.0).1 session x.1 ((n.fewer x.0).1 session x.1 x.2))))
+  collected_now session owed stays = either_way each none
+    where
+      x : (id : ℕ) × (f : Bool) × (session_in (call_on open_heard id) ≡ Some (session, f))
+      x = (let y = stays_open s config r open_calls n.actions (past.own ++ own) sound (made_more config p r past.own own last so_far.made)
+          so_far.works.agrees.handled.open_now so_far.works.agrees.handled.did session (found_in session (staying (past.own ++ own)) stays) in
+          (y.0, y.1, (m.fewer y.0).1 session y.1 ((n.fewer y.0).1 session y.1 y.2)))
+
+      each : must ≡ true → list_any (collects session) own ≡ true
+      each e = list_any-append (collects session) k.heard.goes.did m.goes.did ∙ or_right (list_any (collects session) k.heard.goes.did)
+          (list_any (collects session) m.goes.did) (due.all e x.0 session x.1 x.2)
+
+      none : must ≡ false → list_any (collects session) own ≡ true
+      none e = by owed
+        where
+          quiet : (x.1 ≡ false) × (awaits_from false session past.own ≡ false)
+          quiet = idle_still e x.0 session x.1 (ap (λ (o : OpenCallsView). session_in (call_on o x.0)) (sym (taken e).2) ∙ x.2)
+
+          by : IsOwedCollect s past before session → list_any (collects session) own ≡ true
+          by (inl waits) = true_false (sym (second_of (wants_results (params_of (reverse past.own) session)) (awaits_from false session past.own) waits)
+              ∙ quiet.1)
+          by (inr (id, at)) = true_false (idle_still e id session true
+              (open_stands s (call_on open_start id) session true (standing s before.actions id).state (h.works.agrees.handled.open_now.stands id) at)).0
 
   read_now : (0 < length (flat_map link.received_bytes turn.pieces)) ⊎ (turn.is_ended ≡ true) ⊎ HasRisen reads reads_now
       ⊎ (past.is_ended ≡ true) ⊎ (1048576 ≤ length before.output)

@@ -1,5 +1,5 @@
 -- What one Collect shows: that it was made, whether it gave results or ended its call, and what it left outstanding.
-use Rattle.std.proofs.Common.{◌≡◌, ◌⊎◌, inl, inr, ℕ, pos, ◌==◌, Bool, ◌||◌, not, true, false, map, List, [], ◌∷◌, ◌++◌, Option, Some, None, take, refl, sym, ap, subst, ◌∙◌, append-nil, if◌then◌else◌}
+use Rattle.std.proofs.Common.{◌≡◌, ◌⊎◌, inl, inr, ℕ, pos, ◌==◌, Bool, ◌||◌, ◌&&◌, not, true, false, map, List, [], ◌∷◌, ◌++◌, Option, Some, None, take, refl, sym, ap, subst, ◌∙◌, append-nil, if◌then◌else◌}
 use Rattle.std.specs.List.{flat_map, list_any}
 use Rattle.std.proofs.lemmas.List.{append_cancel_left}
 use Rattle.std.proofs.lemmas.List.Folds.{list_any-append}
@@ -21,7 +21,9 @@ use Rattle.call_orders.specs.Calls.{CallState, Collects, Modifies, NotBegun, Ove
 use Rattle.call_orders.specs.Orders.{is_stopped}
 use Rattle.call_orders.specs.Owed.{end_items, ends_call, has_end, is_end, items_for, modify_responses, ok, want_of_memory}
 use Rattle.call_orders.proofs.Doing.{Each, each_at, end_behind}
-use Rattle.server_turns.specs.Past.{collects, is_progress, leaves_some}
+use Rattle.session_engine.specs.Stands.{leaves_by}
+use Rattle.server_turns.specs.Past.{awaits_from, collects, is_progress, leaves_some}
+use Rattle.server_conn.specs.Gathering.{IsCleared}
 use Rattle.server_conn.specs.Steps.{has_items}
 use Rattle.server_conn.proofs.Replies.{IsAnswered, each_behind, leave_unstopped}
 
@@ -132,6 +134,77 @@ module _ (s : Setting) (session : ℕ) (is_finished : Bool) where
           (or_parts (list_any (ends_call s) (collect session (reply.Collected given left) ∷ [])) (has_end (good (reply.Collected given left)))
           (sym (end_behind s (collect session (reply.Collected given left) ∷ []) (good (reply.Collected given left))) ∙ on.0)).1
 
+  still_as : (b f : Bool) → (if b then Over else Modifies session is_finished) ≡ Modifies session f → (b ≡ false) × (is_finished ≡ f)
+  still_as true f e = absurd cc
+  still_as false f e = (refl, ap is_told e)
+
+-- ---- what it leaves to wait for
+
+not_false : (b : Bool) → not b ≡ false → b ≡ true
+not_false true e = refl
+not_false false e = absurd (cc e)
+
+cleared : (a b awaits : Bool) → a ≡ true → b ≡ true → (if a && b then false else awaits) ≡ false
+cleared true true awaits e f = refl
+cleared true false awaits e f = absurd (cc f)
+cleared false b awaits e f = absurd (cc e)
+
+either_false : (b : Bool) → (if b then false else false) ≡ false
+either_false true = refl
+either_false false = refl
+
+unfinished : (is_finished some : Bool) → some ≡ false → (is_finished ≡ true → some ≡ true) → is_finished ≡ false
+unfinished true some e h = absurd (clash some (h refl) e)
+unfinished false some e h = refl
+
+-- a Leave makes no session wait
+leave_awaits : (session n : ℕ) (state : CallState) (last : List Event) → Leaves (Some session) state last → awaits_from false n last ≡ false
+leave_awaits session n Over last h = ap (awaits_from false n) h.1
+leave_awaits session n NotBegun last h = ap (awaits_from false n) h
+leave_awaits session n (Modifies m b) last h = ap (awaits_from false n) h
+leave_awaits session n (Receives method first is_more) last h = ap (awaits_from false n) h
+leave_awaits session n (Responds waiting) last h = ap (awaits_from false n) h
+
+-- nor does a Collect
+collect_awaits : (session n : ℕ) (said : Reply) (state : CallState) (last : List Event) → Leaves (Some session) state last →
+    awaits_from false n (collect session said ∷ last) ≡ false
+collect_awaits session n said state last h = by said
+  where
+    stays : (b : Bool) → awaits_from (if b then false else false) n last ≡ false
+    stays b = ap (λ (x : Bool). awaits_from x n last) (either_false b) ∙ leave_awaits session n state last h
+
+    by : (said : Reply) → awaits_from false n (collect session said ∷ last) ≡ false
+    by (reply.Collected given outstanding) = stays ((session == n) && (outstanding == 0))
+    by other = stays ((session == n) && false)
+
+module _ (s : Setting) (session : ℕ) (is_finished : Bool) (said : Reply) (answered : GivesOrEnds said) (last : List Event)
+    (leaves : Leaves (Some session) (if has_end (owed s session is_finished said) then Over else Modifies session is_finished) last)
+    (none : leaves_by said ≡ false) where
+  -- a call that goes on behind a Collect that left nothing awaits nothing
+  clears : (f : Bool) → (if has_end (owed s session is_finished said) then Over else Modifies session is_finished) ≡ Modifies session f →
+      IsCleared session f (collect session said ∷ last)
+  clears f e = by answered
+    where
+      on : (has_end (owed s session is_finished said) ≡ false) × (is_finished ≡ f)
+      on = still_as s session is_finished (has_end (owed s session is_finished said)) f e
+
+      nothing : last ≡ []
+      nothing = subst (λ (b : Bool). Leaves (Some session) (if b then Over else Modifies session is_finished) last) on.0 leaves
+
+      by : GivesOrEnds said → IsCleared session f (collect session said ∷ last)
+      by (inr ends) = absurd (clash (has_end (owed s session is_finished said)) (owes_end s session is_finished said ends) on.0)
+      by (inl (given, left, is)) = (
+        unfinished f (leaves_by said) none (λ t. leaves_so t),
+        λ awaits. ap (λ (l : List Event). awaits_from awaits session (collect session said ∷ l)) nothing
+            ∙ (ap (λ (r : Reply). awaits_from awaits session (collect session r ∷ [])) is
+            ∙ cleared (session == session) (left == 0) awaits (same_self session) (not_false (left == 0) (ap leaves_by (sym is) ∙ none))),
+      )
+        where
+          leaves_so : f ≡ true → leaves_by said ≡ true
+          leaves_so t = ap leaves_by is ∙ (sym (ap (λ (r : Reply). leaves_some (collect session r)) is)
+              ∙ leaves_results s session is_finished said (inl (given, left, is)) (subst (λ (b : Bool).
+              (if has_end (owed s session is_finished said) then Over else Modifies session is_finished) ≡ Modifies session b) t e))
+
 -- ---- what it shows
 
 -- what a Collect for a session comes to: its entries, its items, and where it leaves the call
@@ -141,6 +214,7 @@ pub record Shows (session : ℕ) (is_finished : Bool) (did : List Event) (items 
   pub stays : state ≡ Modifies session true → list_any leaves_some did ≡ true
   pub is_over : Bool
   pub state_is : state ≡ (if is_over then Over else Modifies session is_finished)
+  pub quiet : (n : ℕ) → awaits_from false n did ≡ false
 
 leave_progress : (session : ℕ) (is_finished b : Bool) (last : List Event) → Leaves (Some session) (if b then Over else Modifies session is_finished) last →
     list_any is_progress last ≡ b
@@ -169,6 +243,7 @@ module _ (s : Setting) (session : ℕ) (is_finished : Bool) (before : List (Item
     stays = λ e. first_true (leaves_some (collect session said)) (list_any leaves_some last) (leaves_results s session is_finished said answered e);
     is_over = has_end (owed s session is_finished said);
     state_is = refl;
+    quiet = λ n. collect_awaits session n said (behind None).state last leaves;
   }
   shows (Some made) leaves items is = record {
     done = first_true (session == session) (list_any (collects session) last) (same_self session);
@@ -178,7 +253,14 @@ module _ (s : Setting) (session : ℕ) (is_finished : Bool) (before : List (Item
     stays = λ e. absurd cc;
     is_over = true;
     state_is = refl;
+    quiet = λ n. collect_awaits session n said Over last leaves;
   }
+
+  -- a call that goes on behind it awaits nothing where it left nothing
+  clears_so : (cut : Option ℕ) → Leaves (Some session) (behind cut).state last → leaves_by said ≡ false → (f : Bool) →
+      (behind cut).state ≡ Modifies session f → IsCleared session f (collect session said ∷ last)
+  clears_so None leaves none f e = clears s session is_finished said answered last leaves none f e
+  clears_so (Some made) leaves none f e = absurd cc
 
 module _ (s : Setting) (config : Config) (stream : ℕ) (st : Standing) (unended : has_end st.items ≡ false) (did : List Event) (cut : Option ℕ)
     (right : IsCollected s st did cut) (fair : Each (IsAnswered config) did) where
@@ -203,6 +285,18 @@ module _ (s : Setting) (config : Config) (stream : ℕ) (st : Standing) (unended
       right.last cut
       (subst (λ (x : Standing). Leaves (Some right.session) x.state right.last) made_is right.leaves) items
       (ap (λ (x : Standing). x.items) (sym made_is) ∙ more)))
+
+  pub collect_clears : list_any (λ e. leaves_by e.reply) (without_leaves did) ≡ false → (f : Bool) →
+      (after s st (Collects stream did cut)).state ≡ Modifies right.session f → IsCleared right.session f did
+  collect_clears none f =
+      subst (λ (x : Standing). x.state ≡ Modifies right.session f → IsCleared right.session f did) (sym made_is)
+      (subst (λ (d : List Event). (made (Modifies right.session right.is_finished) (collect right.session right.said ∷ [])).state ≡ Modifies right.session f →
+      IsCleared right.session f d) (sym right.did_is)
+      (clears_so s right.session right.is_finished st.items unended right.said
+      (collect_answered config right.session right.said (each_at (IsAnswered config) [] (collect right.session right.said) right.last fair_parts))
+      right.last cut
+      (subst (λ (x : Standing). Leaves (Some right.session) x.state right.last) made_is right.leaves)
+      (or_parts (leaves_by right.said) false (ap (list_any (λ (e : Event). leaves_by e.reply)) (sym right.works_is) ∙ none)).0 f))
 
   -- whether a reply is Stopped is told by the entries without the Leave
   pub collect_quiet : list_any is_stopped (without_leaves did) ≡ list_any is_stopped did

@@ -616,7 +616,7 @@ stands_open s (Some (opened.Modifies n g)) session f state stands e =
 stands_open s (Some (opened.Receives method first is_more)) session f state stands e = absurd (cc e)
 stands_open s (Some (opened.Responds rows)) session f state stands e = absurd (cc e)
 
-open_stands : (s : Setting) (o : Option OpenCall) (session : ℕ) (f : Bool) (state : CallState) → Stands s o state → state ≡ Modifies session f →
+pub open_stands : (s : Setting) (o : Option OpenCall) (session : ℕ) (f : Bool) (state : CallState) → Stands s o state → state ≡ Modifies session f →
     session_in o ≡ Some (session, f)
 open_stands s None session f state (inl unbegun) e = absurd (cc (sym unbegun ∙ e))
 open_stands s None session f state (inr over) e = absurd (cc (sym over ∙ e))

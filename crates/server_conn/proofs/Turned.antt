@@ -43,7 +43,7 @@ use Rattle.server_turns.specs.Turning.{Counts, During, GoesOn, IsAnswer, IsOwedC
 use Rattle.server_account.specs.Agreeing.{IsServer, IsSettled, IsTold, account_of, none_left}
 use Rattle.server_account.specs.Laws.{PumpsKeepUp}
 use Rattle.session_engine.specs.Queries.{is_asking}
-use Rattle.server_conn.specs.Standing.{Goes, Works, past_of}
+use Rattle.server_conn.specs.Standing.{Goes, NoneWaits, Works, past_of}
 use Rattle.server_conn.specs.Steps.{CollectsAll, Grows, Holds, IsNoMore, IsPumped, MUCH, Responds, Writes, got}
 use Rattle.server_conn.specs.Turns.{AreAnsweredIfIdle, TakesIn, TurnsOn, answer_by}
 use Rattle.server_conn.proofs.Grown.{grows_then, made_more, prefix_more, prefix_refl}
@@ -177,6 +177,10 @@ whole_behind uses output s config past first p q r heard collected calls open_he
     ))
 
 -- ---- the same, of a connection that has these parts
+
+pub idle_at : (open_calls open_now : OpenCallsView) (is_left may_wait : Bool) (own : List Event) → open_now ≡ open_calls → may_wait ≡ is_left →
+    (is_left ≡ false → NoneWaits open_calls own) → may_wait ≡ false → NoneWaits open_now own
+idle_at open_calls open_now is_left may_wait own e f h g = subst (λ (o : OpenCallsView). NoneWaits o own) (sym e) (h (sym f ∙ g))
 
 module _ {K : Type 0} (uses : K → CallTrace → Type 0) (output : K → List ℕ) (s : Setting) where
   abbrev pub takes_at : (config : Config) (p q : PassView Command Reply Config) (before calls : K) (open_calls : OpenCallsView) (refused : ℕ) (t : CallTrace)

@@ -9,10 +9,10 @@ use Rattle.call_orders.specs.Calls.{Action}
 use Rattle.call_orders.specs.Actions.{events_in}
 use Rattle.call_orders.specs.Orders.{AllLeave, staying}
 use Rattle.session_engine.specs.Laws.{AreOpen}
-use Rattle.session_engine.specs.Queries.{OpenCallsView}
+use Rattle.session_engine.specs.Queries.{OpenCallsView, call_on, session_in}
 use Rattle.server_turns.specs.declared.outcome.Outcome.{Outcome}
 use Rattle.server_turns.specs.declared.outcome.Outcome.TheVariants as over
-use Rattle.server_turns.specs.Past.{Past}
+use Rattle.server_turns.specs.Past.{Past, awaits_from}
 use Rattle.server_turns.specs.Turning.{is_spent}
 use Rattle.server_turns.specs.Serving.{Account, EndsWhole, NoneOpen, Serves, refused_in}
 use Rattle.server_account.specs.Agreeing.{Agrees, IsSettled, account_of, none_left}
@@ -43,6 +43,11 @@ module _ {K : Type 0} (uses : K → CallTrace → Type 0) (output : K → List �
     pub whole : past.is_ended ≡ true → EndsWhole s past a × NoneOpen s past a
     pub serves : Serves s past a None
 
+-- No session awaits results, or has a client that has ended its side.
+abbrev pub NoneWaits : OpenCallsView → List Event → Type 0
+NoneWaits open_calls own = (id session : ℕ) (is_finished : Bool) → session_in (call_on open_calls id) ≡ Some (session, is_finished) →
+    (is_finished ≡ false) × (awaits_from false session own ≡ false)
+
 -- ---- over
 
 -- A connection that is over keeps its outcome, and the promise that held then.
@@ -52,16 +57,17 @@ pub record IsOver (s : Setting) (past : Past) (a : Account) (refused : ℕ) (out
 
 module _ {K : Type 0} (uses : K → CallTrace → Type 0) (output : K → List ℕ) where
   -- A connection stands so for an account: it goes on, or is over with the outcome that it keeps.
-  abbrev pub StandsAs : Setting → K → OpenCallsView → ℕ → Bool → Option Outcome → Past → Account → Option Outcome → Type 0
-  StandsAs s calls open_calls refused is_ended kept past a None = Goes uses output s calls open_calls refused is_ended past a × (kept ≡ None)
-  StandsAs s calls open_calls refused is_ended kept past a (Some outcome) = IsOver s past a refused outcome × (kept ≡ Some outcome)
+  abbrev pub StandsAs : Setting → K → OpenCallsView → ℕ → Bool → Bool → Option Outcome → Past → Account → Option Outcome → Type 0
+  StandsAs s calls open_calls refused is_ended may_wait kept past a None =
+      Goes uses output s calls open_calls refused is_ended past a × (kept ≡ None) × (may_wait ≡ false → NoneWaits open_calls past.own)
+  StandsAs s calls open_calls refused is_ended may_wait kept past a (Some outcome) = IsOver s past a refused outcome × (kept ≡ Some outcome)
 
 -- A connection keeps the promise however it stands.
 abbrev pub serves_as : {K : Type 0} (uses : K → CallTrace → Type 0) (output : K → List ℕ) (s : Setting) (calls : K) (open_calls : OpenCallsView)
-    (refused : ℕ) (is_ended : Bool) (kept : Option Outcome) (past : Past) (a : Account) (outcome : Option Outcome) →
-    StandsAs uses output s calls open_calls refused is_ended kept past a outcome → Serves s past a outcome
-serves_as uses output s calls open_calls refused is_ended kept past a None h = h.0.serves
-serves_as uses output s calls open_calls refused is_ended kept past a (Some outcome) h = h.0.serves
+    (refused : ℕ) (is_ended may_wait : Bool) (kept : Option Outcome) (past : Past) (a : Account) (outcome : Option Outcome) →
+    StandsAs uses output s calls open_calls refused is_ended may_wait kept past a outcome → Serves s past a outcome
+serves_as uses output s calls open_calls refused is_ended may_wait kept past a None h = h.0.serves
+serves_as uses output s calls open_calls refused is_ended may_wait kept past a (Some outcome) h = h.0.serves
 
 -- ---- how it ends
 

@@ -39,7 +39,7 @@ use Rattle.server_conn.specs.declared.conn.Cause.{Cause}
 use Rattle.server_conn.specs.declared.hearing.Heard.{Heard}
 use Rattle.server_conn.specs.declared.hearing.Heard.TheVariants as heard
 use Rattle.server_conn.specs.declared.conn.Cause.TheVariants.{Ends}
-use Rattle.server_conn.specs.Standing.{AreCounted, EndsBy, Works, is_spent_by, past_of}
+use Rattle.server_conn.specs.Standing.{AreCounted, EndsBy, NoneWaits, Works, is_spent_by, past_of}
 
 -- much is written or waits
 abbrev pub MUCH : ℕ
@@ -197,6 +197,14 @@ module _ {K : Type 0} (uses : K → CallTrace → Type 0) (output : K → List �
     pub moved : has_moved ≡ true ↔ ((0 < length bytes) ⊎ ((was_ended ≡ false) × (is_ended ≡ true)))
     pub why : (0 < length bytes) ⊎ (is_ended ≡ true) ⊎ HasRisen from.reads to.reads ⊎ (MUCH ≤ length (output before))
 
+-- Each session is collected once where that must be. Behind it some session may wait unless `is_left` is false.
+pub record CollectsDue (must is_left : Bool) (before open_calls : OpenCallsView) (own did : List Event) : Type 0 where
+  pub all : must ≡ true → (id session : ℕ) (is_finished : Bool) → session_in (call_on before id) ≡ Some (session, is_finished) →
+      list_any (collects session) did ≡ true
+  -- a session whose client has ended its side stays where results are outstanding
+  pub stays : must ≡ true → (id session : ℕ) → session_in (call_on open_calls id) ≡ Some (session, true) → list_any leaves_some did ≡ true
+  pub idle : (must ≡ false → NoneWaits before own) → is_left ≡ false → NoneWaits open_calls (own ++ did)
+
 -- ---- with entries in the history
 
 module _ {K : Type 0} (uses : K → CallTrace → Type 0) (output : K → List ℕ) (s : Setting) (config : Config) where
@@ -232,16 +240,12 @@ module _ {K : Type 0} (uses : K → CallTrace → Type 0) (output : K → List �
 
   -- ---- collecting
 
-  -- Each session was collected once, and what came of it was given.
+  -- Sessions were collected, and what came of it was given.
   pub record CollectsAll (p q : PassView Command Reply Config) (calls : K) (before open_calls : OpenCallsView) (refused : ℕ) (t : CallTrace)
       (pieces : List Piece) (own : List Event) (has_moved : Bool) : Type 0 where
     pub goes : GoesTo p q calls open_calls refused t pieces own
     pub connection : goes.trace.connection_trace ≡ t.connection_trace
     pub reported : goes.trace.reported ≡ t.reported
     pub moved : has_moved ≡ list_any is_progress goes.did
-    pub all : (id session : ℕ) (is_finished : Bool) → session_in (call_on before id) ≡ Some (session, is_finished) →
-        list_any (collects session) goes.did ≡ true
-    -- a session whose client has ended its side stays where results are outstanding
-    pub stays : (id session : ℕ) → session_in (call_on open_calls id) ≡ Some (session, true) → list_any leaves_some goes.did ≡ true
     -- no call begins, and none is asked more
     pub fewer : (id : ℕ) → IsNoMore (call_on before id) (call_on open_calls id)

@@ -1,5 +1,5 @@
 //! Results are collected for sessions.
-ghost use Rattle.std.specs.Prelude.{◌≡◌, ℕ, ◌++◌, ◌||◌, List, Bool, Ok, IfOk, IfErr, IsSome, false};
+ghost use Rattle.std.specs.Prelude.{◌≡◌, ℕ, ◌++◌, ◌||◌, List, Bool, Ok, IfOk, IfErr, IsSome, false, true};
 ghost use Rattle.rig_io.specs.Link.{Piece};
 ghost use Rattle.rib_core.specs.Recorded.{IsLawful};
 ghost use Rattle.grpc_stream.specs.CallTrace.{CallTrace};
@@ -11,7 +11,7 @@ ghost use Rattle.server_turns.specs.Making.{MadeLast};
 ghost use Rattle.server_account.specs.Agreeing.{IsSettled};
 ghost use Rattle.server_conn.specs.Gathering.{CollectsOne};
 ghost use Rattle.server_conn.specs.Standing.{Works};
-ghost use Rattle.server_conn.specs.Steps.{CollectsAll, StopsBy, is_fault_by};
+ghost use Rattle.server_conn.specs.Steps.{CollectsAll, CollectsDue, StopsBy, is_fault_by};
 
 use crate::conn::{Cause, ServerConn};
 use call_answers::Setting;
@@ -28,7 +28,8 @@ fn either(a: bool, b: bool) -> bool
 }
 
 impl<K: CallConnection> ServerConn<K> {
-    // Collects for each session once. Says whether a Collect gave results or ended a call.
+    // Collects for each session once, unless none may have to wait for anything: a Collect takes the table's lock. Says whether a Collect gave
+    // results or ended a call.
     pub(crate) fn collect_all<R: Wait>(
         &mut self,
         rt: &R,
@@ -43,11 +44,52 @@ impl<K: CallConnection> ServerConn<K> {
         ensures goes { (t : CallTrace) (actions : List Action) (pieces : List Piece) (own : List Event) (rest : List ℕ)
             → Works K.stands K.output setting.now self.old.calls self.old.engine self.old.refused t actions pieces own → IsSettled t rest
             → MadeLast pass.old own
-            → IfOk result (λ moved. CollectsAll K.stands K.output setting.now lock.now.setup pass.old pass.new self.new.calls self.old.engine self.new.engine
-            self.new.refused t pieces own moved)
+            → IfOk result (λ moved. (k : CollectsAll K.stands K.output setting.now lock.now.setup pass.old pass.new self.new.calls self.old.engine
+            self.new.engine self.new.refused t pieces own moved)
+            × CollectsDue self.old.may_wait self.new.may_wait self.old.engine self.new.engine own k.goes.did)
             × IfErr result (λ cause. StopsBy K.stands K.output setting.now lock.now.setup pass.old pass.new self.new.calls self.new.engine self.new.refused t
             pieces own self.new.is_ended cause) }
-        ensures same { self.new ≡ record self.old { calls = self.new.calls; engine = self.new.engine; refused = self.new.refused } }
+        ensures same { self.new ≡ record self.old {
+          calls = self.new.calls;
+          engine = self.new.engine;
+          refused = self.new.refused;
+          may_wait = self.new.may_wait;
+        } }
+        ensures quiet { IfErr result (λ cause. is_fault_by cause ≡ false) }
+    {
+        if !self.may_wait {
+            return Ok(false);
+        }
+        self.may_wait = false;
+        self.collect_each(rt, lock, pass, setting)
+    }
+
+    // Collects for each session once. Says whether a Collect gave results or ended a call.
+    fn collect_each<R: Wait>(
+        &mut self,
+        rt: &R,
+        lock: &TableLock<RibCore>,
+        pass: &mut Pass<RibCore>,
+        setting: &Setting,
+    ) -> Result<bool, Cause>
+        requires pass { IsPassOf lock.now pass.old }
+        requires sound { IsSound IsLawful lock.now.setup pass.old }
+        ensures pass { IsPassOf lock.now pass.new }
+        ensures sound { IsSound IsLawful lock.now.setup pass.new }
+        ensures goes { (t : CallTrace) (actions : List Action) (pieces : List Piece) (own : List Event) (rest : List ℕ)
+            → Works K.stands K.output setting.now self.old.calls self.old.engine self.old.refused t actions pieces own → IsSettled t rest
+            → MadeLast pass.old own
+            → IfOk result (λ moved. (k : CollectsAll K.stands K.output setting.now lock.now.setup pass.old pass.new self.new.calls self.old.engine
+            self.new.engine self.new.refused t pieces own moved)
+            × CollectsDue true self.new.may_wait self.old.engine self.new.engine own k.goes.did)
+            × IfErr result (λ cause. StopsBy K.stands K.output setting.now lock.now.setup pass.old pass.new self.new.calls self.new.engine self.new.refused t
+            pieces own self.new.is_ended cause) }
+        ensures same { self.new ≡ record self.old {
+          calls = self.new.calls;
+          engine = self.new.engine;
+          refused = self.new.refused;
+          may_wait = self.new.may_wait;
+        } }
         ensures quiet { IfErr result (λ cause. is_fault_by cause ≡ false) }
     {
         let mut has_moved = false;
@@ -66,7 +108,7 @@ impl<K: CallConnection> ServerConn<K> {
         Ok(has_moved)
     }
 
-    // Collects for the session on a stream. Says whether that gave results or ended its call.
+    // Collects for the session on a stream, and notes whether it left any outstanding. Says whether that gave results or ended its call.
     fn collect_one<R: Wait>(
         &mut self,
         rt: &R,
@@ -84,15 +126,23 @@ impl<K: CallConnection> ServerConn<K> {
             → Works K.stands K.output setting.now self.old.calls self.old.engine self.old.refused t actions pieces own → IsSettled t rest
             → MadeLast pass.old own
             → IfOk result (λ has_any. CollectsOne K.stands K.output setting.now lock.now.setup pass.old pass.new self.new.calls self.old.engine
-            self.new.engine self.new.refused stream t pieces own has_any)
+            self.new.engine self.new.refused stream self.old.may_wait self.new.may_wait t pieces own has_any)
             × IfErr result (λ cause. StopsBy K.stands K.output setting.now lock.now.setup pass.old pass.new self.new.calls self.new.engine self.new.refused t
             pieces own self.new.is_ended cause) }
-        ensures same { self.new ≡ record self.old { calls = self.new.calls; engine = self.new.engine; refused = self.new.refused } }
+        ensures same { self.new ≡ record self.old {
+          calls = self.new.calls;
+          engine = self.new.engine;
+          refused = self.new.refused;
+          may_wait = self.new.may_wait;
+        } }
         ensures quiet { IfErr result (λ cause. is_fault_by cause ≡ false) }
     {
         match self.engine.collect(rt, lock, pass, setting, stream) {
             Err(_) => Err(Cause::Spent),
-            Ok(step) => self.give(&setting.numbering, stream, step),
+            Ok((step, has_left)) => {
+                self.may_wait = either(self.may_wait, has_left);
+                self.give(&setting.numbering, stream, step)
+            }
         }
     }
 }

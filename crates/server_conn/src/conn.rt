@@ -16,6 +16,8 @@ pub struct ServerConn<K: CallConnection> {
     pub(crate) waiting: u64,
     // How many calls were ended for want of memory, at most 2^64 - 1.
     pub(crate) refused: u64,
+    // A session may await results, or its client has ended its side.
+    pub(crate) may_wait: bool,
     // How it is over.
     pub(crate) outcome: Option<Outcome>,
 }

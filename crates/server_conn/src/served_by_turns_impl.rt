@@ -36,7 +36,8 @@ impl<K: CallConnection> ServerConn<K> {
     /// A connection over new calls of a server.
     pub fn new(alloc: Global, calls: K) -> ServerConn<K>
         ensures starts { (s : SettingView) (limits : H2Limits) → IsServerLimits limits → IsNew Server limits (λ c. K.stands calls (fresh c s.numbering))
-            → (a : Account) × StandsAs K.stands K.output s result.calls result.engine result.refused result.is_ended result.outcome nothing a None }
+            → (a : Account) × StandsAs K.stands K.output s result.calls result.engine result.refused result.is_ended result.may_wait result.outcome nothing
+            a None }
     {
         ServerConn {
             alloc,
@@ -45,6 +46,7 @@ impl<K: CallConnection> ServerConn<K> {
             is_ended: false,
             waiting: 0,
             refused: 0,
+            may_wait: false,
             outcome: None,
         }
     }
@@ -140,12 +142,12 @@ impl<K: CallConnection> ServedByTurns for ServerConn<K> {
     ghost use Rattle.server_conn.specs.Standing.{StandsAs, serves_as};
 
     ghost stands = { λ conn s past a outcome.
-        StandsAs K.stands K.output s conn.calls conn.engine conn.refused conn.is_ended conn.outcome past a outcome };
+        StandsAs K.stands K.output s conn.calls conn.engine conn.refused conn.is_ended conn.may_wait conn.outcome past a outcome };
 
     ghost waiting = { λ conn. conn.waiting };
 
     ghost serves = { λ conn s past a outcome h.
-        serves_as K.stands K.output s conn.calls conn.engine conn.refused conn.is_ended conn.outcome past a outcome h };
+        serves_as K.stands K.output s conn.calls conn.engine conn.refused conn.is_ended conn.may_wait conn.outcome past a outcome h };
 
     fn refused_calls(&self) -> u64 {
         self.refused

@@ -13,7 +13,7 @@ ghost use Rattle.server_turns.specs.Past.{Past};
 ghost use Rattle.server_turns.specs.Serving.{Account};
 ghost use Rattle.server_turns.specs.Turning.{During};
 ghost use Rattle.server_account.specs.Agreeing.{IsSettled};
-ghost use Rattle.server_conn.specs.Standing.{Goes, Works};
+ghost use Rattle.server_conn.specs.Standing.{Goes, NoneWaits, Works};
 ghost use Rattle.server_conn.specs.Steps.{IsFaultBy, StopsBy, got};
 ghost use Rattle.server_conn.specs.Turns.{TakesIn, TurnsLast, TurnsOn};
 
@@ -64,12 +64,17 @@ impl<K: CallConnection> ServerConn<K> {
           engine = self.new.engine;
           refused = self.new.refused;
           is_ended = self.new.is_ended;
+          may_wait = self.new.may_wait;
         } }
+        // nothing may have come where it is still known that no session waits
+        ensures idle { IfOk result (λ moved. self.new.may_wait ≡ false →
+            (moved ≡ false) × (self.old.may_wait ≡ false) × (self.new.engine ≡ self.old.engine)) }
     {
         let has_read = self.read(link)?;
         if !has_read {
             return Ok(false);
         }
+        self.may_wait = true;
         self.hear_all(rt, lock, pass, setting, clock)?;
         Ok(true)
     }
@@ -90,11 +95,13 @@ impl<K: CallConnection> ServerConn<K> {
         ensures sound { IsSound IsLawful lock.now.setup pass.new }
         ensures goes { (past : Past) (before : Account)
             → (h : Goes K.stands K.output setting.now self.old.calls self.old.engine self.old.refused self.old.is_ended past before)
-            → MadeLast pass.old past.own → (turn : During) × (L.pieces link.new ≡ option_map (λ told. told ++ turn.pieces) (L.pieces link.old))
+            → MadeLast pass.old past.own → (self.old.may_wait ≡ false → NoneWaits self.old.engine past.own)
+            → (turn : During) × (L.pieces link.new ≡ option_map (λ told. told ++ turn.pieces) (L.pieces link.old))
             × IfOk result (λ moved. TurnsOn K.stands K.output setting.now lock.now.setup pass.old pass.new self.new.calls self.new.engine self.new.refused
             self.new.waiting self.new.is_ended past before turn moved
             (record { reads = L.read_idles link.old; writes = L.write_idles link.old; ends = L.ends link.old })
-            (record { reads = L.read_idles link.new; writes = L.write_idles link.new; ends = L.ends link.new }))
+            (record { reads = L.read_idles link.new; writes = L.write_idles link.new; ends = L.ends link.new })
+            × (self.new.may_wait ≡ false → NoneWaits self.new.engine (past.own ++ turn.own)))
             × IfErr result (λ cause. TurnsLast K.stands K.output setting.now lock.now.setup pass.old pass.new h.trace self.new.calls self.new.engine
             self.new.refused self.new.is_ended past turn cause
             (record { reads = L.read_idles link.old; writes = L.write_idles link.old; ends = L.ends link.old })

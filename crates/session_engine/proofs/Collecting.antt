@@ -19,7 +19,7 @@ use Rattle.call_orders.specs.Orders.{is_stopped_by}
 use Rattle.session_engine.specs.declared.step.Step.{Step}
 use Rattle.session_engine.specs.declared.step.Progress.{Progress}
 use Rattle.session_engine.specs.declared.step.Progress.TheVariants.{GoesOn, Ended, OutOfMemory, Spent}
-use Rattle.session_engine.specs.Stands.{items_in}
+use Rattle.session_engine.specs.Stands.{items_in, leaves_by}
 use Rattle.session_engine.specs.Steps.{AddsItems, AddsAnswer, EndsFinished, CollectsResults, collect_entry}
 use Rattle.session_engine.proofs.CommandRuns.{spent_behind, sound_still, or_false}
 
@@ -79,7 +79,7 @@ not_spent_then OutOfMemory w b items a m c h k e = cc (k.0, e)
 not_spent_then Spent w b items a m c h k e = h
 
 module _ {G : Type 0} (lawful : G → List (Entry Command Reply) → Type 0) (setup : G) where
-  pub collect_spent : (s : Setting) (p q : PassView Command Reply G) (session : ℕ) (fin : Bool) (a : Step) → 2 ^ 62 ≤ q.ticket → q ≡ record p { ticket = q.ticket } → IsSound lawful setup p → a.end ≡ None → CollectsResults lawful setup s p q session fin Spent a a
+  pub collect_spent : (s : Setting) (p q : PassView Command Reply G) (session : ℕ) (fin : Bool) (a : Step) → 2 ^ 62 ≤ q.ticket → q ≡ record p { ticket = q.ticket } → IsSound lawful setup p → a.end ≡ None → CollectsResults lawful setup s p q session fin Spent false a a
   collect_spent s p q session fin a late e sound no_end = record {
     said = reply.Left;
     calls = λ alive. absurd (alive refl);
@@ -87,11 +87,12 @@ module _ {G : Type 0} (lawful : G → List (Entry Command Reply) → Type 0) (se
     sound = sound_still lawful setup p q e sound;
     told = no_end;
     halted = sym (or_false a.halted);
+    left = λ alive. absurd (alive refl);
   }
 
-  pub collect_called : (s : Setting) (p q : PassView Command Reply G) (session : ℕ) (fin : Bool) (said : Reply) (w0 w : Progress) (b : Bool) (a m c : Step) → IsCalled lawful setup p q (Collect session) said
-      → AddsAnswer w0 (modify_items s.numbering false 0 (pos 0) said) a m → m.halted ≡ (a.halted || is_stopped_by said) → EndsFinished w0 b w m c → b ≡ (fin && is_clear said) → CollectsResults lawful setup s p q session fin w a c
-  collect_called s p q session fin said w0 w b a m c called tells halted ends is =
+  pub collect_called : (s : Setting) (p q : PassView Command Reply G) (session : ℕ) (fin : Bool) (said : Reply) (w0 w : Progress) (b has_left : Bool) (a m c : Step) → IsCalled lawful setup p q (Collect session) said
+      → AddsAnswer w0 (modify_items s.numbering false 0 (pos 0) said) a m → m.halted ≡ (a.halted || is_stopped_by said) → EndsFinished w0 b w m c → b ≡ (fin && is_clear said) → has_left ≡ leaves_by said → CollectsResults lawful setup s p q session fin w has_left a c
+  collect_called s p q session fin said w0 w b has_left a m c called tells halted ends is left =
       let items : List (Item CallEnd) = items_for s (collect_entry session said) in
       let told : AddsItems w (items ++ tail_by b) a c = items_end w0 w b items a m c (λ t. clear_no_end s session said (clear_by fin (is_clear said) b is t)) tells ends in
       record {
@@ -102,4 +103,5 @@ module _ {G : Type 0} (lawful : G → List (Entry Command Reply) → Type 0) (se
         told = subst (λ (l : List (Item CallEnd)). AddsItems w (l ++ good_end (Modifies session fin) (collect_entry session said ∷ [])) a c) (sym (append-nil items))
             (subst (λ (l : List (Item CallEnd)). AddsItems w (items ++ l) a c) (sym (good_is s session fin said b is)) told);
         halted = halted_same w0 w b m c ends ∙ halted;
+        left = λ alive. left;
       }

@@ -22,7 +22,7 @@ use Rattle.session_engine.specs.declared.step.Step.{Step}
 use Rattle.session_engine.specs.declared.step.Progress.{Progress}
 use Rattle.session_engine.specs.declared.step.Progress.TheVariants.{GoesOn, Ended, OutOfMemory, Spent}
 use Rattle.session_engine.specs.Queries.{OpenCallsView, call_on, open_session, session_in}
-use Rattle.session_engine.specs.Stands.{AreSameElsewhere, DoesAction, HandlesCall, IsSpentBehind, IsSpentIn, IsUnended, MakesEntries, Stands, StopsIn, items_in}
+use Rattle.session_engine.specs.Stands.{AreSameElsewhere, CollectsFor, DoesAction, HandlesCall, IsSpentBehind, IsSpentIn, IsUnended, MakesEntries, Stands, StopsIn, items_in, leaves_by}
 use Rattle.session_engine.specs.Steps.{ClosesCall, CollectsResults, DoesMessage, PassGoes, StopsClosing, asked_by_message, collect_entry, refused_by_message}
 use Rattle.session_engine.proofs.CommandRuns.{entries_then, or_false}
 use Rattle.session_engine.proofs.Taking.{CollectMakes, IsClosedStep, IsLast, RequestMakes, at_session, collect_makes, no_leaves, request_makes, settled_state, without_tail}
@@ -110,32 +110,34 @@ module _ {G : Type 0} (lawful : G → List (Entry Command Reply) → Type 0) (se
       }
 
   -- results are collected
-  pub collects : (s : Setting) (p q r : PassView Command Reply G) (old new : OpenCallsView) (stream session : ℕ) (fin : Bool) (w : Progress) (a b c : Step)
+  pub collects : (s : Setting) (p q r : PassView Command Reply G) (old new : OpenCallsView) (stream session : ℕ) (fin : Bool) (w : Progress) (has_left : Bool) (a b c : Step)
       → items_in a ≡ [] → a.halted ≡ false → call_on old stream ≡ Some (opened.Modifies session fin)
-      → CollectsResults lawful setup s p q session fin w a b → ClosesCall lawful setup w stream session q r old new b c
-      → DoesAction lawful setup s old new p r stream (Stands s (call_on old stream)) (Collects stream) c
-  collects s p q r old new stream session fin w a b c none quiet was done closes =
+      → CollectsResults lawful setup s p q session fin w has_left a b → ClosesCall lawful setup w stream session q r old new b c
+      → CollectsFor lawful setup s old new p r stream c has_left
+  collects s p q r old new stream session fin w has_left a b c none quiet was done closes =
       let l = closing_last w stream session q r old new b c done.sound closes in
       let last : List Event = l.0 in
       let alive = not_spent w stream session q r old new b c closes in
       let d : List Event = collect_entry session done.said ∷ [] in
-      let same : without_leaves (d ++ last) ≡ d = without_tail d last refl ∙ (ap (λ (x : List Event). d ++ x) (no_leaves w session last l.2) ∙ append-nil d) in
-      record {
-        did = d ++ last;
-        entries = entries_then lawful setup p q r d last (done.calls alive) l.1;
-        takes = λ st from unended.
-            (let at : st.state ≡ Modifies session fin = stands_modify s (call_on old stream) st session fin was from in
-            let k = subst (λ (x : Standing). CollectMakes s x stream session fin w (d ++ last) c) (same_standing st session fin at)
-            (collect_makes s st.items stream session fin w done.said last a b c (unended_modify st session fin at unended) none done.told l.3 l.2 alive) in
-            record {
-              cut = k.0;
-              right = k.1;
-              stands = closed_stands s w stream session fin q r old new b c _ was closes k.3;
-              items_are = k.2;
-            });
-        others = closed_others w stream session q r old new b c closes;
-        halted = halted_by w b c l.3 ∙ (done.halted ∙ (ap (λ (x : Bool). x || is_stopped_by done.said) quiet ∙ (sym (or_false (is_stopped_by done.said)) ∙ ap (list_any is_stopped) (sym same))));
-      }
+      let same : without_leaves (d ++ last) ≡ d = without_tail d last refl ∙ (ap (λ (x : List Event). d ++ x) (no_leaves w session last l.2) ∙ append-nil d) in (
+        record {
+          did = d ++ last;
+          entries = entries_then lawful setup p q r d last (done.calls alive) l.1;
+          takes = λ st from unended.
+              (let at : st.state ≡ Modifies session fin = stands_modify s (call_on old stream) st session fin was from in
+              let k = subst (λ (x : Standing). CollectMakes s x stream session fin w (d ++ last) c) (same_standing st session fin at)
+              (collect_makes s st.items stream session fin w done.said last a b c (unended_modify st session fin at unended) none done.told l.3 l.2 alive) in
+              record {
+                cut = k.0;
+                right = k.1;
+                stands = closed_stands s w stream session fin q r old new b c _ was closes k.3;
+                items_are = k.2;
+              });
+          others = closed_others w stream session q r old new b c closes;
+          halted = halted_by w b c l.3 ∙ (done.halted ∙ (ap (λ (x : Bool). x || is_stopped_by done.said) quiet ∙ (sym (or_false (is_stopped_by done.said)) ∙ ap (list_any is_stopped) (sym same))));
+        },
+        done.left alive ∙ (sym (or_false (leaves_by done.said)) ∙ ap (list_any (λ (e : Event). leaves_by e.reply)) (sym same)),
+      )
 
   -- ---- a call under the lock was Spent
 
@@ -220,12 +222,12 @@ module _ {G : Type 0} (lawful : G → List (Entry Command Reply) → Type 0) (se
   }
 
   -- for a Collect
-  pub collect_spent_in : (s : Setting) (p q r : PassView Command Reply G) (old : OpenCallsView) (stream session : ℕ) (fin : Bool) (w : Progress) (a b : Step)
+  pub collect_spent_in : (s : Setting) (p q r : PassView Command Reply G) (old : OpenCallsView) (stream session : ℕ) (fin : Bool) (w : Progress) (has_left : Bool) (a b : Step)
       → items_in a ≡ [] → a.end ≡ None → call_on old stream ≡ Some (opened.Modifies session fin)
-      → CollectsResults lawful setup s p q session fin w a b → StopsClosing lawful setup w q r
+      → CollectsResults lawful setup s p q session fin w has_left a b → StopsClosing lawful setup w q r
       → IsSpentIn lawful setup s p r stream (Stands s (call_on old stream)) []
-  collect_spent_in s p q r old stream session fin GoesOn a b none no_end was done stops = absurd stops
-  collect_spent_in s p q r old stream session fin Ended a b none no_end was done stops =
+  collect_spent_in s p q r old stream session fin GoesOn has_left a b none no_end was done stops = absurd stops
+  collect_spent_in s p q r old stream session fin Ended has_left a b none no_end was done stops =
       let d : List Event = collect_entry session done.said ∷ [] in
       let last : List Event = leave session reply.Left ∷ [] in
       record {
@@ -237,7 +239,7 @@ module _ {G : Type 0} (lawful : G → List (Entry Command Reply) → Type 0) (se
             (subst (λ (x : Standing). CollectMakes s x stream session fin Ended (d ++ last) b) (same_standing st session fin at)
             (collect_makes s st.items stream session fin Ended done.said last a b b (unended_modify st session fin at unended) none done.told refl (reply.Left, refl) (λ e. cc e))));
       }
-  collect_spent_in s p q r old stream session fin OutOfMemory a b none no_end was done stops =
+  collect_spent_in s p q r old stream session fin OutOfMemory has_left a b none no_end was done stops =
       let d : List Event = collect_entry session done.said ∷ [] in
       let last : List Event = leave session reply.Left ∷ [] in
       let c : Step = record b { end = Some want_of_memory } in
@@ -250,7 +252,7 @@ module _ {G : Type 0} (lawful : G → List (Entry Command Reply) → Type 0) (se
             (subst (λ (x : Standing). CollectMakes s x stream session fin OutOfMemory (d ++ last) c) (same_standing st session fin at)
             (collect_makes s st.items stream session fin OutOfMemory done.said last a b c (unended_modify st session fin at unended) none done.told refl (reply.Left, refl) (λ e. cc e))));
       }
-  collect_spent_in s p q r old stream session fin Spent a b none no_end was done stops =
+  collect_spent_in s p q r old stream session fin Spent has_left a b none no_end was done stops =
       let next : Event = collect_entry session reply.Left in
       let last : List Event = leave session reply.Left ∷ [] in
       let c : Step = record a { end = Some want_of_memory } in

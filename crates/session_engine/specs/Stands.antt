@@ -1,6 +1,6 @@
 -- How the calls of an engine stand, and what one call of the engine adds: an action of call_orders that is right for the call on a
 -- stream, its entries in the pass, and its items in the step.
-use Rattle.std.specs.Prelude.{◌≡◌, ◌⊎◌, ℕ, ◌==◌, false, true, map, List, [], ◌∷◌, ◌++◌, Option, Some, None}
+use Rattle.std.specs.Prelude.{◌≡◌, ◌⊎◌, ℕ, ◌==◌, Bool, false, true, not, map, List, [], ◌∷◌, ◌++◌, Option, Some, None}
 use Rattle.std.specs.List.{list_any}
 use Rattle.grpc_heads.specs.CallEnd.{CallEnd}
 use Rattle.grpc_heads.specs.declared.head.Method.{Method}
@@ -11,10 +11,11 @@ use Rattle.table_lock.specs.Lock.{entry}
 use Rattle.table_lock.specs.Passes.{PassView, Makes}
 use Rattle.table_model.specs.declared.command.Command.{Command}
 use Rattle.table_model.specs.declared.reply.Reply.{Reply}
+use Rattle.table_model.specs.declared.reply.Reply.TheVariants as reply
 use Rattle.table_model.specs.Event.{Event}
 use Rattle.call_answers.specs.declared.orders.Setting.{Setting}
 use Rattle.call_orders.specs.Owed.{has_end, items_by, selected_items}
-use Rattle.call_orders.specs.Calls.{CallState, NotBegun, Modifies, Receives, Responds, Over, Standing, Action, Handles, Continues, after, calls_of, events_of, refusal_for, stream_of, without_leaves}
+use Rattle.call_orders.specs.Calls.{CallState, NotBegun, Modifies, Receives, Responds, Over, Standing, Action, Handles, Collects, Continues, after, calls_of, events_of, refusal_for, stream_of, without_leaves}
 use Rattle.call_orders.specs.Actions.{IsAction}
 use Rattle.call_orders.specs.Orders.{is_stopped}
 use Rattle.session_engine.specs.declared.open_calls.OpenCall.{OpenCall}
@@ -43,6 +44,11 @@ abbrev pub IsUnended : Standing → Type 0
 IsUnended st = (st.state ≡ Over) ⊎ (has_end st.items ≡ false)
 
 -- ---- what is added
+
+-- results were left outstanding
+abbrev pub leaves_by : Reply → Bool
+leaves_by (reply.Collected given outstanding) = not (outstanding == 0)
+leaves_by said = false
 
 -- the items of a step
 abbrev pub items_in : Step → List (Item CallEnd)
@@ -94,6 +100,12 @@ module _ {G : Type 0} (lawful : G → List (Entry Command Reply) → Type 0) (se
     pub takes : TakesFrom s from (call_on new stream) (action did) (λ _. items_in step)
     pub others : AreSameElsewhere stream old new
     pub halted : step.halted ≡ list_any is_stopped (without_leaves did)
+
+  -- Results are collected for the session on a stream, and it is said whether any were left outstanding.
+  abbrev pub CollectsFor : Setting → OpenCallsView → OpenCallsView → PassView Command Reply G → PassView Command Reply G → ℕ → Step → Bool → Type 0
+  CollectsFor s old new p q stream step has_left =
+      (k : DoesAction s old new p q stream (Stands s (call_on old stream)) (Collects stream) step)
+      × (has_left ≡ list_any (λ e. leaves_by e.reply) (without_leaves k.did))
 
   -- A call of the lock was Spent behind these entries, which are the first of an action for the call on the stream.
   pub record IsSpentIn (s : Setting) (p q : PassView Command Reply G) (stream : ℕ) (from : CallState

@@ -22,7 +22,7 @@ use Rattle.session_engine.specs.declared.step.Step.{Step}
 use Rattle.session_engine.specs.declared.step.Progress.{Progress}
 use Rattle.session_engine.specs.declared.step.Progress.TheVariants.{GoesOn, Ended, OutOfMemory, Spent}
 use Rattle.session_engine.specs.Queries.{OpenCallsView, call_on}
-use Rattle.session_engine.specs.Stands.{AreSameElsewhere, IsSpentBehind, MakesEntries, items_in}
+use Rattle.session_engine.specs.Stands.{AreSameElsewhere, IsSpentBehind, MakesEntries, items_in, leaves_by}
 
 -- The step got these items. Where the call goes on none of them is an end, and where it ended one is. Where memory was wanting, or a
 -- call was Spent, it got the first of them, and no end.
@@ -129,8 +129,8 @@ module _ {G : Type 0} (lawful : G → List (Entry Command Reply) → Type 0) (se
     pub halted : after.halted ≡ (before.halted || list_any is_stopped did)
 
   -- Results were collected, unless the call was Spent, and added, with the good end behind them where they are the last.
-  pub record CollectsResults (s : Setting) (p q : PassView Command Reply G) (session : ℕ) (is_finished : Bool) (progress : Progress) (before after :
-      Step) : Type 0 where
+  pub record CollectsResults (s : Setting) (p q : PassView Command Reply G) (session : ℕ) (is_finished : Bool) (progress : Progress)
+      (has_left : Bool) (before after : Step) : Type 0 where
     pub said : Reply
     pub calls : (progress ≡ Spent → ⊥) → MakesEntries lawful setup p q (collect_entry session said ∷ [])
     pub spent : progress ≡ Spent → IsSpentBehind lawful setup p q []
@@ -138,6 +138,7 @@ module _ {G : Type 0} (lawful : G → List (Entry Command Reply) → Type 0) (se
     pub told : AddsItems progress (flat_map (items_for s) (collect_entry session said ∷ []) ++ good_end (Modifies session is_finished) (collect_entry
         session said ∷ [])) before after
     pub halted : after.halted ≡ (before.halted || is_stopped_by said)
+    pub left : (progress ≡ Spent → ⊥) → has_left ≡ leaves_by said
 
   abbrev pub BeginsSession : PassView Command Reply G → PassView Command Reply G → Option ℕ → Step → Step → Type 0
   BeginsSession p q (Some session) before after =

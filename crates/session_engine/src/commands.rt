@@ -9,6 +9,7 @@ ghost use Rattle.call_orders.specs.Actions.{timeless};
 ghost use Rattle.call_orders.specs.Orders.{is_stopped_by};
 ghost use Rattle.table_lock.specs.Passes.{IsPassOf, IsSound};
 ghost use Rattle.session_engine.specs.Steps.{AddsAnswer, CollectsResults, DoesCommands, DoesMessage, EndsFinished, asked_by_message, is_modify, refused_by_message};
+ghost use Rattle.session_engine.specs.Stands.{leaves_by};
 
 use crate::endings::{good_end, refuse};
 use crate::step::{Progress, Step};
@@ -342,7 +343,17 @@ fn end_finished(progress: Progress, is_over: bool, out: &mut Step) -> Progress
     }
 }
 
-/// Collects results for a Modify call.
+// Results were left outstanding.
+fn has_left(reply: &Reply) -> bool
+    ensures { result ≡ leaves_by reply.now }
+{
+    match reply {
+        Reply::Collected(_, outstanding) => *outstanding != 0,
+        _ => false,
+    }
+}
+
+/// Collects results for a Modify call. Says whether any were left outstanding too.
 pub(crate) fn do_collect<R: Wait, M: Machine<Command = Command, Reply = Reply>>(
     rt: &R,
     alloc: Global,
@@ -352,19 +363,20 @@ pub(crate) fn do_collect<R: Wait, M: Machine<Command = Command, Reply = Reply>>(
     session: u64,
     is_finished: bool,
     out: &mut Step,
-) -> Progress
+) -> (Progress, bool)
     requires pass { IsPassOf lock.now pass.old }
     requires sound { IsSound M.lawful lock.now.setup pass.old }
     requires no_end { out.old.end ≡ None }
-    ensures { CollectsResults M.lawful lock.now.setup setting.now pass.old pass.new session is_finished result out.old out.new }
+    ensures { CollectsResults M.lawful lock.now.setup setting.now pass.old pass.new session is_finished result.0 result.1 out.old out.new }
 {
     match lock.call(rt, pass, Command::Collect(session)) {
-        Err(_) => Progress::Spent,
+        Err(_) => (Progress::Spent, false),
         Ok(reply) => {
             let is_over = is_over(is_finished, &reply);
+            let has_left = has_left(&reply);
             let progress = add_answer(alloc, &setting.numbering, false, 0, 0, &reply, out);
             discard(reply);
-            end_finished(progress, is_over, out)
+            (end_finished(progress, is_over, out), has_left)
         }
     }
 }

@@ -8,7 +8,7 @@ ghost use Rattle.call_orders.specs.Actions.{timeless};
 ghost use Rattle.call_orders.specs.Laws.{is_single};
 ghost use Rattle.session_engine.specs.Queries.{call_on, is_responding, remaining, session_in};
 ghost use Rattle.session_engine.specs.Singles.{IsReceiving, is_single_command};
-ghost use Rattle.session_engine.specs.Stands.{ContinuesCall, DoesAction, DropsCall, HandlesCall, IsDropOf, IsNotBegun, IsSpentIn, Opens, Stands};
+ghost use Rattle.session_engine.specs.Stands.{CollectsFor, ContinuesCall, DoesAction, DropsCall, HandlesCall, IsDropOf, IsNotBegun, IsSpentIn, Opens, Stands};
 
 use crate::closing::{begin_session, close_up, leave};
 use crate::commands::{do_collect, do_message};
@@ -100,12 +100,11 @@ impl SessionEngine {
         pass: &mut Pass<M>,
         setting: &Setting,
         stream: u32,
-    ) -> Result<Step, EngineFault>
+    ) -> Result<(Step, bool), EngineFault>
         requires pass { IsPassOf lock.now pass.old }
         requires sound { IsSound M.lawful lock.now.setup pass.old }
         requires call { IsSome (session_in (call_on self.old stream)) }
-        ensures done { IfOk result (λ step. DoesAction M.lawful lock.now.setup setting.now self.old self.new pass.old pass.new stream
-            (Stands setting.now (call_on self.old stream)) (Collects stream) step) }
+        ensures done { IfOk result (λ done. CollectsFor M.lawful lock.now.setup setting.now self.old self.new pass.old pass.new stream done.0 done.1) }
         ensures spent { IfErr result (λ _.
             IsSpentIn M.lawful lock.now.setup setting.now pass.old pass.new stream (Stands setting.now (call_on self.old stream)) []) }
     {
@@ -113,7 +112,7 @@ impl SessionEngine {
         let Some((session, is_finished)) = self.calls.session(stream) else {
             unreachable!()
         };
-        let progress = do_collect(
+        let (progress, has_left) = do_collect(
             rt,
             self.alloc,
             lock,
@@ -133,7 +132,7 @@ impl SessionEngine {
             progress,
             &mut step,
         )?;
-        Ok(step)
+        Ok((step, has_left))
     }
 
     // A Modify call began. It begins a session.

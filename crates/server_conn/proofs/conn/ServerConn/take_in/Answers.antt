@@ -1,7 +1,8 @@
-use Rattle.std.proofs.Common.{◌++◌, ap}
+use Rattle.std.proofs.Common.{◌++◌, ◌∙◌, ap, refl, sym}
 use Rattle.std.proofs.lemmas.Result.{err_from_is_err_and}
 use Rattle.server_conn.specs.Steps.{got}
 use Rattle.server_conn.proofs.Grown.{stops_from}
+use Rattle.server_conn.proofs.Served.{true_false}
 use Rattle.server_conn.proofs.Turning.{all_heard, nothing_read, stops_none}
 use Rattle.server_conn.proofs.conn.ServerConn.take_in.Goals as goal
 
@@ -57,3 +58,13 @@ returns-clause-goes g c t actions pieces own rest works settled last =
           c.if-not-has_read.false (ap (λ x. x.is_ended) c.in_ok-hear_all.ensures.same) k.3 m.0,
       tt,
     ))
+
+pub returns-then-not-has_read-clause-idle : goal.returns-then-not-has_read-clause-idle
+returns-then-not-has_read-clause-idle g c = λ e. (
+  refl,
+  sym (ap (λ x. x.may_wait) c.in_ok-has_read.ensures.same) ∙ e,
+  ap (λ x. x.engine) c.in_ok-has_read.ensures.same,
+)
+
+pub returns-clause-idle : goal.returns-clause-idle
+returns-clause-idle g c = λ e. true_false (sym (ap (λ x. x.may_wait) c.in_ok-hear_all.ensures.same) ∙ e)

@@ -7,15 +7,15 @@ use Rattle.server_conn.proofs.served_by_turns_impl.ServerConnServedByTurns.turn.
 
 pub returns-in-Ok-clause-serves : goal.returns-in-Ok-clause-serves
 returns-in-Ok-clause-serves g c past before st last =
-    (let x = c.in-Ok.ensures.goes past before st.0 last in
+    (let x = c.in-Ok.ensures.goes past before st.0 last st.2 in
     let y = comes_on g.K.CallConnection.stands g.K.CallConnection.output c.args.setting.now c.args.lock.now.setup c.args.pass.now c.go.new.pass
-    c.go.new.self.calls c.go.new.self.engine c.go.new.self.refused c.go.new.self.waiting c.go.new.self.is_ended c.go.new.self.outcome past before x.0 _ _
-    c.in-Ok.has_moved c.answer_by.result c.answer_by.ensures (c.in-Ok.ensures.outcome ∙ st.1) x.2 in
-    (x.0, x.2.after, x.1, y.0, y.1, y.2, y.3, y.4))
+    c.go.new.self.calls c.go.new.self.engine c.go.new.self.refused c.go.new.self.waiting c.go.new.self.is_ended c.go.new.self.may_wait c.go.new.self.outcome past before x.0 _ _
+    c.in-Ok.has_moved c.answer_by.result c.answer_by.ensures (c.in-Ok.ensures.outcome ∙ st.1) x.2.0 x.2.1 in
+    (x.0, x.2.0.after, x.1, y.0, y.1, y.2, y.3, y.4))
 
 pub returns-in-Err-clause-serves : goal.returns-in-Err-clause-serves
 returns-in-Err-clause-serves g c past before st last =
-    (let x = c.in-Err.ensures.goes past before st.0 last in
+    (let x = c.in-Err.ensures.goes past before st.0 last st.2 in
     let y = c.turn_over.ensures.goes st.0.trace (past.pieces ++ x.0.pieces) (past.own ++ x.0.own) x.3.ends
     (made_even c.args.lock.now.setup (is_spent_by c.in-Err.cause) c.args.pass.now c.go.new.pass past.own x.0.own last x.3.made) in (
       record { pieces = x.0.pieces ++ y.0; own = x.0.own ++ y.2.did; is_ended = x.0.is_ended },
