@@ -8,4 +8,4 @@ returns-in-Err g c =
 
 pub returns-in-Ok : goal.returns-in-Ok
 returns-in-Ok g c =
-    let k = c.in-Ok.ensures.done in pass_after IsLawful c.settle.new.self.lock c.settle.new.self.pass c.collect.new.pass k.did c.settle.ensures.pass k.entries
+    let k = c.in-Ok.ensures.done.0 in pass_after IsLawful c.settle.new.self.lock c.settle.new.self.pass c.collect.new.pass k.did c.settle.ensures.pass k.entries
