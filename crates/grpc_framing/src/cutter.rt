@@ -1,4 +1,4 @@
-ghost use Rattle.std.specs.Prelude.{◌≡◌, ◌↔◌, [], IsTrue, OnOk, OnErr, None};
+ghost use Rattle.std.specs.Prelude.{◌≡◌, ◌↔◌, ◌≤◌, [], ◌++◌, IsTrue, IfOk, OnOk, OnErr, None, length, take, drop};
 
 use crate::front::{Front, front_of};
 use bytes::{Bytes, BytesMut};
@@ -35,16 +35,20 @@ pub enum Refusal {
 #[derive(Drop)]
 pub struct MessageCutter {
     limit: u32,
-    held: BytesMut,
+    // What is held is one of these: a piece as it came, of which messages are parts, or the bytes of several pieces.
+    piece: Bytes,
+    gathered: BytesMut,
     refusal: Option<Refusal>,
+    ghost held_once: { 1 ≤ length gathered.items → piece ≡ [] },
 }
 
 impl Model for MessageCutter {
+    ghost use Rattle.std.specs.Prelude.{◌++◌};
     ghost use Rattle.grpc_framing.specs.CutterState.{CutterState};
 
     ghost Value = { CutterState };
 
-    ghost view = { λ c. record { limit = c.limit; held = c.held.items; refusal = c.refusal } };
+    ghost view = { λ c. record { limit = c.limit; held = c.piece ++ c.gathered.items; refusal = c.refusal } };
 }
 
 impl MessageCutter {
@@ -56,7 +60,8 @@ impl MessageCutter {
     {
         MessageCutter {
             limit,
-            held: BytesMut::new(alloc),
+            piece: Bytes::new(),
+            gathered: BytesMut::new(alloc),
             refusal: None,
         }
     }
@@ -67,10 +72,51 @@ impl MessageCutter {
         ensures ok { OnOk result (self.new ≡ fed self.old piece) }
         ensures err { OnErr result (self.new ≡ self.old) }
     {
-        if self.refusal.is_some() {
+        match self.refusal {
+            Some(_) => Ok(()),
+            None => self.hold(piece),
+        }
+    }
+
+    // Takes the next piece where none was refused. A piece is kept as it came where nothing is held.
+    fn hold(&mut self, piece: Bytes) -> Result<(), AllocError>
+        ensures ok { OnOk result (self.new ≡ record self.old { held = self.old.held ++ piece }) }
+        ensures err { OnErr result (self.new ≡ self.old) }
+    {
+        if self.piece.is_empty() && self.gathered.is_empty() {
+            self.piece = piece;
             return Ok(());
         }
-        self.held.extend_from_slice(piece.as_slice())
+        if !self.piece.is_empty() {
+            self.gathered.extend_from_slice(self.piece.as_slice())?;
+            self.piece.clear();
+        }
+        self.gathered.extend_from_slice(piece.as_slice())
+    }
+
+    // The bytes that are held.
+    fn held(&self) -> &[u8]
+        ensures { result.now ≡ self.now.held }
+    {
+        if self.gathered.is_empty() {
+            self.piece.as_slice()
+        } else {
+            self.gathered.as_slice()
+        }
+    }
+
+    // Takes this many bytes from the front of what is held. A part of a piece isn't copied.
+    fn split_to(&mut self, size: usize) -> Result<Bytes, AllocError>
+        requires { size ≤ length self.old.held }
+        ensures ok { OnOk result (self.new ≡ record self.old { held = drop size self.old.held }) }
+        ensures front { IfOk result (λ front. front ≡ take size self.old.held) }
+        ensures err { OnErr result (self.new ≡ self.old) }
+    {
+        if self.gathered.is_empty() {
+            self.piece.split_to(size)
+        } else {
+            self.gathered.freeze_to(size)
+        }
     }
 
     fn cut_front(&mut self) -> Cut
@@ -82,8 +128,8 @@ impl MessageCutter {
             Some(Refusal::NoMemory) => return Cut::NoMemory,
             None => {}
         }
-        match front_of(self.limit, self.held.as_slice()) {
-            Front::Message(size) => match self.held.freeze_to(5 + size) {
+        match front_of(self.limit, self.held()) {
+            Front::Message(size) => match self.split_to(5 + size) {
                 Ok(mut message) => {
                     message.advance(5);
                     Cut::Message(message)
@@ -119,6 +165,6 @@ impl MessageCutter {
     pub fn is_between(&self) -> bool
         ensures { IsTrue result ↔ (self.now.held ≡ []) }
     {
-        self.held.is_empty()
+        self.piece.is_empty() && self.gathered.is_empty()
     }
 }
