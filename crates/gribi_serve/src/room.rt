@@ -3,7 +3,7 @@ ghost use Rattle.std.specs.Prelude.{◌≡◌};
 
 use call_answers::Setting;
 use rib_core::RibCore;
-use std::marker::PhantomData;
+use std::marker::{Brand, PhantomData};
 use table_lock::TableLock;
 
 /// Names the lock over the table, and the setting. Each run of a server picks both.
@@ -17,6 +17,14 @@ pub trait Naming {
 
     /// The setting.
     ghost setting: { SettingView };
+}
+
+impl Naming for Brand {
+    ghost use Rattle.gribi_serve.specs.Named.{unnamed_lock, unnamed_setting};
+
+    ghost lock = { unnamed_lock };
+
+    ghost setting = { unnamed_setting };
 }
 
 /// The lock over the table and the setting, which all connections of a server share.

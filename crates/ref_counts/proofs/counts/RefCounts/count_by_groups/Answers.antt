@@ -1,0 +1,12 @@
+use Rattle.std.proofs.Common.{ap, sym, ◌∙◌}
+use Rattle.ref_counts.specs.declared.places.Counts.{Counts}
+use Rattle.ref_counts.specs.Counting.{group_count_in, counts_if}
+use Rattle.ref_counts.proofs.counts.RefCounts.count_by_groups.Goals as goal
+
+pub returns-in-Some : goal.returns-in-Some
+unfolding group_count_in
+returns-in-Some c = rw (← c.self.view_is) (ap (λ (n : Counts). n.by_groups) (c.counts_at.ensures ∙ ap (λ p. counts_if p c.self.inside.places.entries) (sym c.in-Some.is ∙ c.place_of.ensures)))
+
+pub returns-in-None : goal.returns-in-None
+unfolding group_count_in
+returns-in-None c = ap (λ p. (counts_if p c.args.self.now.counted).by_groups) (sym c.in-None.is ∙ c.place_of.ensures)
