@@ -13,7 +13,7 @@ use Rattle.h2_frames.specs.declared.code.ErrorCode.{ErrorCode}
 use Rattle.h2_exchange.specs.declared.limits.H2Limits.{H2Limits}
 use Rattle.h2_exchange.specs.declared.role.Role.{Role}
 use Rattle.h2_exchange.specs.declared.role.Role.TheVariants.{Client, Server}
-use Rattle.h2_exchange.specs.Calls.{Call, Begun, Request, Finished, Dropped, Declined, Closed, Broken, answers_of, calls_of, cut, end_calls, head_calls, is_begun_call, is_ended_on}
+use Rattle.h2_exchange.specs.Calls.{Begun, Request, Dropped, Declined, Closed, Broken, answers_of, calls_of, cut, end_calls, is_begun_call, is_ended_on}
 use Rattle.h2_exchange.specs.Calls as call
 use Rattle.h2_exchange.specs.Events.{Event, Head, Data, Ended, Reset, GoneAway, bytes_of, bytes_on}
 use Rattle.h2_exchange.specs.Content.{Outcome}

@@ -17,7 +17,7 @@ use Rattle.kept_calls.specs.CallState.{CallState, ended, is_sent}
 use Rattle.call_sending.specs.Laws.{TurnsEnd}
 use Rattle.call_sending.specs.Moves.{IsDone}
 use Rattle.call_sending.specs.Pumping as pump
-use Rattle.call_sending.specs.Pumping.{Closes, Pieces, PumpsBytes, PumpsCall, has_no_end, is_open_in, placed_in}
+use Rattle.call_sending.specs.Pumping.{Closes, Pieces, PumpsBytes, PumpsCall, has_no_end, is_open_in}
 use Rattle.call_sending.specs.Spelling.{Sends}
 use Rattle.call_sending.proofs.Moved.{ended_still, live_back, room_falls}
 use Rattle.call_sending.proofs.Turned.{at_behind, call_turn, sends_behind}

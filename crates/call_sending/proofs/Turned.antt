@@ -18,7 +18,7 @@ use Rattle.kept_calls.specs.CallState.{CallState, ended}
 use Rattle.call_sending.specs.Laws.{TurnsSpell}
 use Rattle.call_sending.specs.Moves.{IsReady, Moves, Turned}
 use Rattle.call_sending.specs.Pumping as pump
-use Rattle.call_sending.specs.Pumping.{Closes, Heads, Pieces, PumpsBytes, PumpsCall, SendsBlock, SendsPiece, closed_if, has_no_end, is_half_close, is_open_in, placed_in}
+use Rattle.call_sending.specs.Pumping.{Closes, Heads, Pieces, PumpsBytes, PumpsCall, SendsBlock, closed_if, is_half_close, is_open_in, placed_in}
 use Rattle.call_sending.specs.Spelling.{Sends}
 use Rattle.call_sending.proofs.Joined.{piece_parts}
 use Rattle.call_sending.proofs.Kept.{sends_kept}

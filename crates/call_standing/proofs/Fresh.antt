@@ -1,5 +1,5 @@
 -- New calls: nothing was fed, and two frames were sent.
-use Rattle.std.proofs.Common.{◌≡◌, ℕ, ◌-◌, ◌≤◌, true, false, List, [], ◌∷◌, ◌++◌, None, length, refl, sym, subst, ◌∙◌, inl, arith}
+use Rattle.std.proofs.Common.{◌≡◌, ℕ, ◌-◌, ◌≤◌, true, false, List, [], ◌∷◌, ◌++◌, length, refl, sym, subst, ◌∙◌, inl, arith}
 use Rattle.std.specs.List.{flat_map}
 use Rattle.std.specs.Int.{w32, to_be_bytes}
 use Rattle.std.proofs.lemmas.List.{append-nil}
@@ -22,7 +22,7 @@ use Rattle.h2_exchange.specs.Requests.{IsRequest}
 use Rattle.h2_exchange.specs.Windows.{spent_on}
 use Rattle.schema_numbers.specs.Numbers.{Numbers}
 use Rattle.http_connection.specs.ConnectionTrace as conn
-use Rattle.http_connection.specs.ConnectionTrace.{ConnectionTrace, events_in}
+use Rattle.http_connection.specs.ConnectionTrace.{events_in}
 use Rattle.grpc_stream.specs.CallTrace.{CallTrace, asked_on, fresh}
 use Rattle.grpc_heads.specs.Written.{response_fields}
 use Rattle.call_hearing.specs.declared.pending.Pending.TheVariants.{Nothing}

@@ -9,7 +9,7 @@ use Rattle.grpc_stream.specs.CallTrace.{CallTrace}
 use Rattle.grpc_stream.specs.NextEvent.{NextEvent, RepeatsRefusal}
 use Rattle.call_standing.specs.declared.fate.Fate.{Fate}
 use Rattle.call_standing.specs.declared.fate.Fate.TheVariants.{Going, Refused, Starved, Dead}
-use Rattle.call_standing.specs.Standing.{IsGoing, IsRefused, StandsFor, State}
+use Rattle.call_standing.specs.Standing.{IsRefused, StandsFor, State}
 
 module _ {C : Type 0} (stands : C → ConnectionTrace → Type 0) (output : C → List ℕ) where
   refused_of : (fate : Fate) (old : C) (s : State) (t : CallTrace) → fate ≡ Refused → StandsFor stands output fate old s t → IsRefused stands output old t

@@ -10,7 +10,7 @@ use Rattle.grpc_stream.specs.declared.event.CallEvent.{CallEvent}
 use Rattle.grpc_stream.specs.declared.event.CallEvent.TheVariants as says
 use Rattle.grpc_stream.specs.CallTrace.{CallTrace, PeerEvent}
 use Rattle.grpc_stream.specs.NextEvent as next
-use Rattle.grpc_stream.specs.NextEvent.{AppendsPeerEvents, AreHidden, GivesCallEvent, GoesOn, NeedsMore, NextEvent, ReportsPeerEvents, RepeatsRefusal, RunsOutOfMemory, Stops, answer_to, shown_events_of}
+use Rattle.grpc_stream.specs.NextEvent.{AppendsPeerEvents, AreHidden, GivesCallEvent, GoesOn, NextEvent, ReportsPeerEvents, RepeatsRefusal, Stops, answer_to, shown_events_of}
 use Rattle.call_standing.specs.Steps.{GoesQuietly}
 
 abbrev pub at : CallTrace → ConnectionTrace → CallTrace

@@ -1,12 +1,8 @@
 -- What one step of the calls comes to.
-use Rattle.std.specs.Prelude.{◌≡◌, ℕ, Bool, true, List, [], ◌∷◌, Option, Some, None}
-use Rattle.h2_exchange.specs.Events.{Event}
-use Rattle.http_connection.specs.Answers.{GivesEvents}
-use Rattle.http_connection.specs.ConnectionTrace.{ConnectionTrace}
+use Rattle.std.specs.Prelude.{◌≡◌, Bool, true, List, [], ◌∷◌, Option, Some, None}
 use Rattle.grpc_stream.specs.declared.event.CallEvent.{CallEvent}
 use Rattle.grpc_stream.specs.CallTrace.{CallTrace, PeerEvent}
 use Rattle.grpc_stream.specs.NextEvent.{AreHidden, NextEvent, ReportsPeerEvents, is_event}
-use Rattle.call_standing.specs.Standing.{Holds, IsRest, State, bare}
 
 -- nothing of what was told is shown
 pub record GoesQuietly (t u : CallTrace) : Type 0 where

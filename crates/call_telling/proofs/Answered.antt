@@ -4,8 +4,6 @@ use Rattle.std.specs.Prelude.{not, option_map}
 use Rattle.std.specs.List.{list_any}
 use Rattle.std.proofs.lemmas.Bool.{eqb-true}
 use Rattle.std.proofs.lemmas.List.Folds.{list_any-append}
-use Rattle.hpack_tables.specs.declared.field.Field.{Field}
-use Rattle.h2_frames.specs.declared.code.ErrorCode.{ErrorCode}
 use Rattle.h2_frames.specs.declared.frame.Frame.{Frame}
 use Rattle.h2_exchange.specs.declared.role.Role.{Role}
 use Rattle.h2_exchange.specs.declared.role.Role.TheVariants.{Client, Server}
@@ -14,12 +12,12 @@ use Rattle.h2_exchange.specs.Exchange.{received, sent}
 use Rattle.h2_exchange.specs.Frames.{code_of, is_rst_stream, stream_of}
 use Rattle.h2_exchange.specs.Outgoing.{IsErrorReset}
 use Rattle.h2_exchange.specs.Requests.{IsRequest}
-use Rattle.h2_exchange.specs.StreamParts.{Part, Fields, Piece, Stopped, StreamEnd, Unclosed, Trailers, WasReset, IsResponse, end_by, has_begun, parts}
+use Rattle.h2_exchange.specs.StreamParts.{Part, Stopped, IsResponse, has_begun, parts}
 use Rattle.h2_exchange.specs.Streams.{has_rst_stream, is_begun, is_ended_by, is_open, is_over}
 use Rattle.h2_exchange.specs.Windows.{spent_on}
 use Rattle.h2_exchange.proofs.Places.{clash, first_true, same_self, second_true}
 use Rattle.h2_exchange.proofs.Steps.{sent_push}
-use Rattle.grpc_heads.specs.CallEnd.{CallEnd, call_end_of}
+use Rattle.grpc_heads.specs.CallEnd.{call_end_of}
 use Rattle.grpc_heads.specs.Written.{response_fields}
 use Rattle.grpc_stream.specs.CallTrace.{CallTrace, asked_on}
 use Rattle.kept_calls.specs.CallState.{CallState, call_on}

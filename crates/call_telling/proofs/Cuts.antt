@@ -15,7 +15,7 @@ use Rattle.h2_exchange.specs.StreamParts.{Item}
 use Rattle.h2_exchange.proofs.Places.{first_true, neither}
 use Rattle.http_connection.specs.ConnectionTrace.{ConnectionTrace, IsSound}
 use Rattle.grpc_stream.specs.CallTrace as trace
-use Rattle.grpc_stream.specs.CallTrace.{CallTrace, PeerEvent, Asked, begins_on, queued_on}
+use Rattle.grpc_stream.specs.CallTrace.{CallTrace, PeerEvent, begins_on, queued_on}
 use Rattle.kept_calls.specs.declared.call.Receiving.{Receiving}
 use Rattle.kept_calls.specs.declared.call.Receiving.TheVariants as was
 use Rattle.kept_calls.specs.CallState.{CallState, call_on}

@@ -14,7 +14,7 @@ use Rattle.http_connection.specs.ConnectionTrace.{ConnectionTrace, IsSound, even
 use Rattle.grpc_stream.specs.declared.event.CallEvent.{CallEvent}
 use Rattle.grpc_stream.specs.CallTrace.{CallTrace, CarriesCallOn, PeerEvent, reported_by}
 use Rattle.grpc_stream.specs.NextEvent as next
-use Rattle.grpc_stream.specs.NextEvent.{AppendsPeerEvents, GivesCallEvent, IsShownAs, RunsOutOfMemory, answer_to, shown_events_of}
+use Rattle.grpc_stream.specs.NextEvent.{GivesCallEvent, IsShownAs, answer_to, shown_events_of}
 use Rattle.kept_calls.specs.CallState.{call_on}
 use Rattle.call_hearing.specs.declared.pending.Pending.{Pending}
 use Rattle.call_hearing.specs.declared.pending.Pending.TheVariants.{Nothing}

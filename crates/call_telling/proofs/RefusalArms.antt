@@ -1,5 +1,5 @@
 -- What a refusal of a call comes to at a server: it is shown as a drop where the call had begun, and else not at all.
-use Rattle.std.proofs.Common.{◌≡◌, ◌⊎◌, ℕ, ◌==◌, ◌≤◌, Bool, true, false, List, [], ◌∷◌, ◌++◌, sum_by, Option, Some, None, Err, refl, sym, ap, subst, ◌∙◌, arith}
+use Rattle.std.proofs.Common.{◌≡◌, ◌⊎◌, ℕ, ◌==◌, ◌≤◌, Bool, true, false, List, [], ◌∷◌, ◌++◌, sum_by, Some, None, Err, refl, ap, subst, ◌∙◌}
 use Rattle.std.specs.List.{flat_map, list_any}
 use Rattle.std.proofs.lemmas.List.{append-nil}
 use Rattle.grpc_framing.specs.CutterState.{CutterState}
@@ -12,16 +12,15 @@ use Rattle.hpack_tables.specs.EntrySizes.{size_of}
 use Rattle.h2_exchange.specs.declared.role.Role.{Role}
 use Rattle.h2_exchange.specs.declared.role.Role.TheVariants.{Server}
 use Rattle.h2_exchange.specs.Calls.{Declined, Dropped, is_begun_call}
-use Rattle.h2_exchange.specs.Events.{Event, Ended, Head}
+use Rattle.h2_exchange.specs.Events.{Ended, Head}
 use Rattle.http_connection.specs.ConnectionTrace.{ConnectionTrace, IsSound}
-use Rattle.grpc_stream.specs.declared.event.CallEvent.{CallEvent}
 use Rattle.grpc_stream.specs.declared.event.CallEvent.TheVariants as says
 use Rattle.grpc_stream.specs.CallTrace.{CallTrace, PeerEvent, Asked}
 use Rattle.grpc_stream.specs.NextEvent as next
 use Rattle.grpc_stream.specs.NextEvent.{GoesOn, asked_of, shown_events_of}
 use Rattle.kept_calls.specs.declared.call.Ending.{Ending}
 use Rattle.kept_calls.specs.declared.call.Receiving.TheVariants as was
-use Rattle.kept_calls.specs.CallState.{CallState, began, call_on, closed_by, ended, is_sent, refused_by}
+use Rattle.kept_calls.specs.CallState.{CallState, began, closed_by, ended, is_sent, refused_by}
 use Rattle.call_hearing.specs.declared.pending.Pending.{Pending}
 use Rattle.call_hearing.specs.declared.pending.Pending.TheVariants.{Nothing, Cut}
 use Rattle.call_hearing.specs.Listening.{Hears}
@@ -32,7 +31,7 @@ use Rattle.call_standing.proofs.Found.{IsChanged}
 use Rattle.call_standing.proofs.Quiet.{gave}
 use Rattle.call_standing.proofs.Rest.{rest_of}
 use Rattle.call_standing.proofs.Told.{going_of, stands_of}
-use Rattle.call_telling.specs.Giving.{HasGiven, told_more, took_in, untaken}
+use Rattle.call_telling.specs.Giving.{HasGiven, told_more, untaken}
 use Rattle.call_telling.proofs.Arms.{Comes, state_at}
 use Rattle.call_telling.proofs.Declines.{compressed_refused, refused_head_hidden, refused_head_holds, shown_as_drop, too_long_refused, truncated_holds}
 use Rattle.call_telling.proofs.Finished.{IsReady, declined_taken}

@@ -28,7 +28,7 @@ use Rattle.h2_exchange.specs.Stops.{stop_of}
 use Rattle.h2_exchange.specs.Streams.{of_client, highest}
 use Rattle.h2_streams.specs.Set.{Set}
 use Rattle.h2_streams.specs.Stands as streams
-use Rattle.http_connection.specs.Answers.{GivesEvents, Receives, AreReply, AreReplyBy, after}
+use Rattle.http_connection.specs.Answers.{AreReply, AreReplyBy, after}
 use Rattle.http_connection.specs.Answers as answer
 use Rattle.http_connection.specs.ConnectionTrace.{ConnectionTrace}
 use Rattle.h2_conn.specs.Hears.{Taken}

@@ -23,7 +23,7 @@ use Rattle.h2_exchange.proofs.Looking.{front_goes_on, given_more}
 use Rattle.h2_exchange.proofs.Staying.{events_more}
 use Rattle.h2_exchange.proofs.Steps.{sent_received}
 use Rattle.http_connection.specs.Answers as answer
-use Rattle.http_connection.specs.Answers.{GivesEvents, IsCause, after}
+use Rattle.http_connection.specs.Answers.{IsCause, after}
 use Rattle.http_connection.specs.ConnectionTrace.{ConnectionTrace, stop_in}
 use Rattle.h2_conn.specs.declared.heard.End.{End}
 use Rattle.h2_conn.specs.Hears.{Ending, Starved, stop_by as stop_of_end}

@@ -2,7 +2,6 @@
 use Rattle.std.proofs.Common.{◌≡◌, ℕ, List, [], ◌∷◌, ◌++◌, Option, Some, None, inl, refl, sym, ap, subst, ◌∙◌}
 use Rattle.std.proofs.lemmas.List.{append-nil}
 use Rattle.h2_exchange.specs.Content.{Outcome}
-use Rattle.h2_exchange.specs.Events.{Event}
 use Rattle.h2_exchange.specs.Events as event
 use Rattle.h2_exchange.specs.Exchange.{Step}
 use Rattle.http_connection.specs.declared.event.H2Event.{H2Event}

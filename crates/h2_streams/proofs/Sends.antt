@@ -9,7 +9,7 @@ use Rattle.h2_exchange.specs.declared.role.Role.{Role}
 use Rattle.h2_exchange.specs.Blocks.{Block, open_block}
 use Rattle.h2_exchange.specs.Exchange.{Step, Sent, received, sent}
 use Rattle.h2_exchange.specs.Frames.{has_end_stream}
-use Rattle.h2_exchange.specs.Streams.{of_client, highest, is_odd, begun, is_begun, is_live, is_open, is_over, is_reset, is_ended_by, live}
+use Rattle.h2_exchange.specs.Streams.{of_client, highest, begun, is_begun, is_live, is_open, is_over, is_reset, is_ended_by, live}
 use Rattle.h2_exchange.specs.Windows.{initial_window, granted_on, spent_on, spent as all_spent}
 use Rattle.h2_exchange.proofs.Steps.{received_sent, sent_push, window_sums_grow, begun_once, begun_within}
 use Rattle.h2_streams.specs.declared.live.Stream.{Stream}

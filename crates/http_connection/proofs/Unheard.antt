@@ -1,5 +1,5 @@
 -- An exchange in which nothing was received.
-use Rattle.std.proofs.Common.{◌≡◌, ℕ, Bool, true, false, List, [], ◌∷◌, ◌++◌, refl, ap, ◌∙◌, map, drop}
+use Rattle.std.proofs.Common.{◌≡◌, Bool, true, false, List, [], ◌∷◌, ◌++◌, refl, ap, ◌∙◌, map, drop}
 use Rattle.std.specs.Prelude.{is_some, if◌then◌else◌}
 use Rattle.h2_frames.specs.declared.frame.Frame.{Frame}
 use Rattle.h2_exchange.specs.declared.limits.H2Limits.{H2Limits}
@@ -7,7 +7,7 @@ use Rattle.h2_exchange.specs.declared.role.Role.{Role}
 use Rattle.h2_exchange.specs.Content.{Outcome}
 use Rattle.h2_exchange.specs.Events.{events_of, all_events}
 use Rattle.h2_exchange.specs.Exchange.{Step, Received, Sent, received, sent, collect, front_before}
-use Rattle.h2_exchange.specs.Stops.{stop_at, before_stop, events}
+use Rattle.h2_exchange.specs.Stops.{stop_at, events}
 
 pub none_received : (fs : List Frame) → received (map Sent fs) ≡ []
 none_received [] = refl

@@ -1,5 +1,5 @@
 -- What contracts see of a call.
-use Rattle.std.specs.Prelude.{ℕ, ◌==◌, Bool, true, false, map, List, [], ◌∷◌, ◌++◌, Option, Some, None}
+use Rattle.std.specs.Prelude.{ℕ, ◌==◌, Bool, true, false, map, List, [], ◌∷◌, ◌++◌, Option, None}
 use Rattle.std.specs.List.{find}
 use Rattle.grpc_framing.specs.CutterState.{CutterState}
 use Rattle.grpc_framing.specs.Framing.{item}

@@ -1,5 +1,5 @@
 -- The calls of a connection, each on its stream.
-use Rattle.std.specs.Prelude.{ℕ, ◌+◌, ◌==◌, List, [], ◌∷◌, ◌++◌, Bool, true, false, length, sum_by, Option, Some, None, if◌then◌else◌}
+use Rattle.std.specs.Prelude.{ℕ, ◌+◌, ◌==◌, List, [], ◌∷◌, ◌++◌, Bool, true, false, length, sum_by, if◌then◌else◌}
 use Rattle.kept_calls.specs.CallState.{CallState}
 
 -- One call is changed: the first on its stream.

@@ -25,7 +25,7 @@ use Rattle.grpc_stream.proofs.Pieces.{as_many, parts_end, response_end}
 use Rattle.grpc_stream.proofs.Spoken.{read, spelled_as}
 use Rattle.call_answers.specs.declared.orders.Setting.{Setting}
 use Rattle.call_orders.specs.Calls as call
-use Rattle.call_orders.specs.Calls.{Action, Standing, answers, standing}
+use Rattle.call_orders.specs.Calls.{Action, answers, standing}
 use Rattle.server_turns.specs.Past.{Past}
 use Rattle.server_turns.specs.Serving.{IsAnswered}
 use Rattle.server_turns.specs.Turning.{unsent}

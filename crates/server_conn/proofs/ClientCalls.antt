@@ -21,7 +21,7 @@ use Rattle.table_model.specs.Event.{Event}
 use Rattle.call_answers.specs.declared.orders.Setting.{Setting}
 use Rattle.call_orders.specs.Owed.{items_for}
 use Rattle.call_orders.specs.Calls.{Action, CallState, Handles, Over, Standing, after, commands_for, handled, next_state, refusal_for, standing, without_leaves}
-use Rattle.call_orders.specs.Actions.{AreDone, AreDoneOrCut, IsHandled, Leaves, calls_in, events_in, leave, may_be_cut, session_in}
+use Rattle.call_orders.specs.Actions.{AreDone, AreDoneOrCut, IsHandled, calls_in, events_in, leave, may_be_cut, session_in}
 use Rattle.call_orders.specs.Orders.{IsSpent, is_stopped}
 use Rattle.call_orders.proofs.Counts.{events_more, standing_here}
 use Rattle.call_orders.proofs.Doing.{Each, each_at}
@@ -37,6 +37,7 @@ use Rattle.server_conn.specs.declared.conn.Cause.TheVariants.{Spent}
 use Rattle.server_conn.specs.Standing.{AreCounted}
 use Rattle.server_conn.specs.Steps.{Hears, Owes, StopsBy}
 use Rattle.server_conn.proofs.Grown.{made_more}
+use Rattle.server_conn.proofs.Drops.{last_leaves}
 use Rattle.server_conn.proofs.PartDone.{spent_kept}
 use Rattle.server_conn.proofs.Replies.{IsAnswered, answered, each_behind, leave_unstopped}
 
@@ -63,12 +64,6 @@ over_takes_none s st c did cut items over act more =
     here (Some made) is = absurd cc
 
 -- ---- a command was answered Stopped where the step halts
-
-last_leaves : (o : Option ℕ) (state : CallState) (last : List Event) → Leaves o state last →
-    (last ≡ []) ⊎ ((session : ℕ) × (said : Reply) × (last ≡ leave session said ∷ []))
-last_leaves None state last h = inl h
-last_leaves (Some session) Over last h = inr (session, h.0, h.1)
-last_leaves (Some session) other last h = inl h
 
 hears_quiet : (s : Setting) (config : Config) (st : Standing) (c : Call Method CallEnd) (did : List Event) (cut : Option ℕ) → IsHandled s st c did cut →
     Each (IsAnswered config) did → list_any is_stopped (without_leaves did) ≡ false → list_any is_stopped did ≡ false

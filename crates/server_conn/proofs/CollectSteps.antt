@@ -9,7 +9,6 @@ use Rattle.rig_io.specs.Link.{Piece}
 use Rattle.grpc_heads.specs.CallEnd.{CallEnd}
 use Rattle.grpc_heads.specs.declared.head.Method.{Method}
 use Rattle.h2_exchange.specs.Calls.{Call}
-use Rattle.h2_exchange.specs.StreamParts.{Item}
 use Rattle.h2_exchange.proofs.Places.{first_true, or_parts, same_self, second_true}
 use Rattle.grpc_stream.specs.CallTrace.{CallTrace, Asked, begins_on}
 use Rattle.table_lock.specs.Passes.{IsSound, PassView}
@@ -21,7 +20,7 @@ use Rattle.table_model.specs.declared.reply.Reply.{Reply}
 use Rattle.table_model.specs.Event.{Event}
 use Rattle.call_answers.specs.declared.orders.Setting.{Setting}
 use Rattle.call_orders.specs.Actions.{IsCollected, calls_in}
-use Rattle.call_orders.specs.Calls.{Action, CallState, Collects, Modifies, NotBegun, Over, Standing, after, standing, without_leaves}
+use Rattle.call_orders.specs.Calls.{Action, CallState, Collects, Modifies, Over, Standing, after, standing, without_leaves}
 use Rattle.call_orders.specs.Owed.{has_end}
 use Rattle.call_orders.proofs.Counts.{standing_here}
 use Rattle.call_orders.proofs.Doing.{Each}
@@ -30,8 +29,8 @@ use Rattle.session_engine.specs.declared.open_calls.OpenCall.{OpenCall}
 use Rattle.session_engine.specs.declared.open_calls.OpenCall.TheVariants as opened
 use Rattle.session_engine.specs.declared.step.Step.{Step}
 use Rattle.session_engine.specs.Laws.{FollowsBy}
-use Rattle.session_engine.specs.Queries.{OpenCallsView, call_on, is_asking, session_in}
-use Rattle.session_engine.specs.Stands.{AreSameElsewhere, DoesAction, IsSpentIn, IsUnended, Stands, items_in, leaves_by}
+use Rattle.session_engine.specs.Queries.{OpenCallsView, call_on, session_in}
+use Rattle.session_engine.specs.Stands.{DoesAction, IsSpentIn, Stands, items_in, leaves_by}
 use Rattle.session_engine.proofs.Follows.{actions_follow, spent_follows}
 use Rattle.server_turns.specs.declared.outcome.Outcome.TheVariants as over
 use Rattle.server_turns.specs.Making.{MadeLast, Makes}
@@ -42,12 +41,13 @@ use Rattle.server_conn.specs.declared.conn.Cause.{Cause}
 use Rattle.server_conn.specs.declared.conn.Cause.TheVariants.{Ends, Spent}
 use Rattle.server_conn.specs.Gathering.{CollectsBelow, CollectsOne, IsCleared}
 use Rattle.server_conn.specs.Standing.{EndsBy, NoneWaits, Works, is_spent_by, past_of}
-use Rattle.server_conn.specs.Steps.{CollectsAll, CollectsDue, GoesTo, IsNoMore, Owes, StopsBy, has_items}
+use Rattle.server_conn.specs.Steps.{CollectsAll, CollectsDue, IsNoMore, Owes, StopsBy, has_items}
 use Rattle.server_conn.proofs.Gathered.{owes_collect}
 use Rattle.server_conn.proofs.Grown.{grows_refl, grows_then, made_more, may_end_from}
+use Rattle.server_conn.proofs.Handed.{grows_beside}
 use Rattle.server_conn.proofs.HeardOf.{told_begun}
 use Rattle.server_conn.proofs.MayEnd.{no_memory_settled}
-use Rattle.server_conn.proofs.NextResponse.{grows_same, no_more_same, no_more_then, settled_same}
+use Rattle.server_conn.proofs.NextResponse.{no_more_same, no_more_then, settled_same}
 use Rattle.server_conn.proofs.OneCollect.{Shows, collect_clears, collect_quiet, collect_shows}
 use Rattle.server_conn.proofs.PartDone.{spent_kept}
 use Rattle.server_conn.proofs.Replies.{IsAnswered, answered, each_behind}
@@ -205,7 +205,7 @@ module _ {K : Type 0} (uses : K → CallTrace → Type 0) (output : K → List �
   collects_one later refused_now u has_any same reported works any = record {
     goes = record {
       trace = u;
-      grows = grows_same t u same;
+      grows = grows_beside t u same;
       actions = action ∷ actions;
       did = k.did;
       made = k.entries;

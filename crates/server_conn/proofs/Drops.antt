@@ -30,6 +30,13 @@ use Rattle.server_conn.proofs.Replies.{BeginsOrEnds, IsAnswered, begin_answered,
 
 -- ---- what is done for it
 
+-- what ends a handled call is a Leave at most
+pub last_leaves : (o : Option ℕ) (state : CallState) (last : List Event) → Leaves o state last →
+    (last ≡ []) ⊎ ((session : ℕ) × (said : Reply) × (last ≡ leave session said ∷ []))
+last_leaves None state last h = inl h
+last_leaves (Some session) Over last h = inr (session, h.0, h.1)
+last_leaves (Some session) other last h = inl h
+
 module _ (s : Setting) where
   drop_commands : (state : CallState) (id : ℕ) (c : Call Method CallEnd) → IsDropOf id c → commands_for s state c ≡ []
   drop_commands NotBegun id c dropped_is = refl
@@ -51,12 +58,6 @@ module _ (s : Setting) where
   drop_works st id c did cut is act =
       none_done s (commands_for s st.state c) (without_leaves did) (drop_commands st.state id c is)
       (in_part s cut st c (commands_for s st.state c) (without_leaves did) (handled s st c (without_leaves did)).items act.made)
-
-  last_leaves : (o : Option ℕ) (state : CallState) (last : List Event) → Leaves o state last →
-      (last ≡ []) ⊎ ((session : ℕ) × (said : Reply) × (last ≡ leave session said ∷ []))
-  last_leaves None state last h = inl h
-  last_leaves (Some session) Over last h = inr (session, h.0, h.1)
-  last_leaves (Some session) other last h = inl h
 
   pub drop_quiet : (config : Config) (st : Standing) (id : ℕ) (c : Call Method CallEnd) (did : List Event) (cut : Option ℕ) → IsDropOf id c →
       IsHandled s st c did cut → Each (IsAnswered config) did → list_any is_stopped did ≡ false

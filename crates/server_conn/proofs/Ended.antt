@@ -1,7 +1,6 @@
 -- What a turn answers.
-use Rattle.std.proofs.Common.{◌≡◌, ◌⊎◌, ℕ, ◌≤◌, Bool, true, false, List, [], ◌++◌, Option, Some, None, inl, inr, refl, sym, ap, ◌∙◌, subst}
+use Rattle.std.proofs.Common.{◌≡◌, ◌⊎◌, ℕ, ◌≤◌, Bool, true, false, List, [], ◌++◌, Option, Some, None, sym, ◌∙◌, subst}
 use Rattle.rig_io.specs.Fault.{HasCause, StaysUnless}
-use Rattle.rig_io.specs.Link.{Piece}
 use Rattle.grpc_stream.specs.CallTrace.{CallTrace}
 use Rattle.table_lock.specs.Passes.{PassView}
 use Rattle.table_model.specs.declared.command.Command.{Command}

@@ -1,5 +1,5 @@
 -- What a Collect brings is owed to the call that it is for.
-use Rattle.std.proofs.Common.{◌≡◌, ℕ, Bool, true, false, List, [], ◌∷◌, ◌++◌, Option, inl, refl, sym, ap, ◌∙◌}
+use Rattle.std.proofs.Common.{◌≡◌, ℕ, true, false, List, [], ◌∷◌, ◌++◌, inl, refl, sym, ◌∙◌}
 use Rattle.std.specs.List.{list_any}
 use Rattle.rig_io.specs.Link.{Piece}
 use Rattle.grpc_stream.specs.CallTrace.{CallTrace, begins_on}
@@ -7,8 +7,7 @@ use Rattle.table_model.specs.Event.{Event}
 use Rattle.call_answers.specs.declared.orders.Setting.{Setting}
 use Rattle.call_orders.specs.Owed.{has_end}
 use Rattle.call_orders.specs.Calls.{Action, Collects, standing}
-use Rattle.call_orders.specs.Orders.{HasStopped, IsRunning, is_stopped}
-use Rattle.call_orders.proofs.Counts.{events_more}
+use Rattle.call_orders.specs.Orders.{is_stopped}
 use Rattle.session_engine.specs.declared.step.Step.{Step}
 use Rattle.session_engine.specs.Laws.{FollowsBy}
 use Rattle.session_engine.specs.Queries.{OpenCallsView, call_on}

@@ -1,19 +1,16 @@
 -- A call that goes on was told to have begun.
-use Rattle.std.proofs.Common.{◌≡◌, ◌⊎◌, ℕ, ◌==◌, ◌||◌, Bool, true, false, map, List, [], ◌∷◌, ◌++◌, Option, Some, None, refl, sym, ap, subst, ◌∙◌, inl, inr, append-nil, eqb-true, if◌then◌else◌}
+use Rattle.std.proofs.Common.{◌≡◌, ◌⊎◌, ℕ, ◌==◌, ◌||◌, Bool, true, false, map, List, [], ◌∷◌, ◌++◌, Some, None, refl, sym, ap, subst, ◌∙◌, inl, inr, eqb-true, if◌then◌else◌}
 use Rattle.std.specs.List.{list_any}
 use Rattle.std.proofs.lemmas.List.{map-append}
 use Rattle.std.proofs.lemmas.List.Folds.{list_any-append}
 use Rattle.grpc_heads.specs.CallEnd.{CallEnd}
 use Rattle.grpc_heads.specs.declared.head.Method.{Method}
-use Rattle.grpc_heads.specs.declared.head.Method.TheVariants.{Modify, Get, Flush}
 use Rattle.h2_exchange.specs.Calls.{Call, Begun, Request, Finished, Dropped, Declined, stream_in}
-use Rattle.h2_exchange.specs.StreamParts.{Item}
 use Rattle.h2_exchange.proofs.Places.{first_true, same_self, second_true}
 use Rattle.grpc_stream.specs.CallTrace.{Asked, PeerEvent, begins_on}
 use Rattle.table_model.specs.Event.{Event}
 use Rattle.call_answers.specs.declared.orders.Setting.{Setting}
-use Rattle.call_orders.specs.Owed.{has_end}
-use Rattle.call_orders.specs.Calls.{Action, CallState, Collects, Continues, Handles, Modifies, NotBegun, Over, Receives, Responds, Standing, after, calls_of, next_state, owing, standing, stream_of, without_leaves}
+use Rattle.call_orders.specs.Calls.{Action, CallState, Collects, Continues, Handles, NotBegun, Over, Standing, after, calls_of, next_state, standing, stream_of, without_leaves}
 use Rattle.call_orders.specs.Actions.{AreActions, IsAction, calls_in}
 
 abbrev was_begun : ℕ → List (Call Method CallEnd) → Bool

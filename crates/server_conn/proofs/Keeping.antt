@@ -1,5 +1,5 @@
 -- How a turn after which a connection goes on is answered, and that it keeps up.
-use Rattle.std.proofs.Common.{◌≡◌, ◌⊎◌, ◌↔◌, ℕ, ◌+◌, ◌-◌, ◌^◌, ◌<◌, ◌≤◌, ◌==◌, ◌||◌, ◌&&◌, min, reverse, Bool, true, false, not, length, List, [], ◌∷◌, ◌++◌, Option, Some, None, is_some, inl, inr, refl, sym, ap, ◌∙◌, subst, append_assoc, append-nil, arith, eqb-true, length-append, map, sum_by, nat_le}
+use Rattle.std.proofs.Common.{◌≡◌, ◌⊎◌, ◌↔◌, ℕ, ◌+◌, ◌-◌, ◌^◌, ◌<◌, ◌≤◌, ◌==◌, ◌||◌, ◌&&◌, reverse, Bool, true, false, not, length, List, [], ◌∷◌, ◌++◌, Option, Some, None, is_some, inl, inr, refl, sym, ap, ◌∙◌, subst, append_assoc, append-nil, arith, eqb-true, length-append, map, nat_le}
 use Rattle.std.specs.List.{flat_map, list_any}
 use Rattle.std.proofs.lemmas.Bool.Decides.{nat_tests}
 use Rattle.std.proofs.lemmas.Grind.{flat_map-append}
@@ -8,21 +8,15 @@ use Rattle.std.proofs.lemmas.List.Sums.{sum_by-append}
 use Rattle.rig_io.specs.Fault.{HasRisen}
 use Rattle.rig_io.specs.Link as link
 use Rattle.rig_io.specs.Link.{Piece}
-use Rattle.h2_frames.specs.declared.frame.Frame.{Frame}
-use Rattle.h2_frames.specs.Layout.{frame_text}
-use Rattle.h2_frames.specs.Stream.{AreWhole}
 use Rattle.h2_exchange.specs.declared.role.Role.{Role}
 use Rattle.h2_exchange.specs.declared.role.Role.TheVariants.{Server}
-use Rattle.h2_exchange.specs.Blocks.{open_block}
-use Rattle.h2_exchange.specs.Exchange.{Step, Sent, received, sent, sent_text}
-use Rattle.h2_exchange.specs.Order.{own_preface, peer_preface, received_bytes, sent_bytes}
-use Rattle.h2_exchange.specs.Sending.{IsCredited, IsPrefix}
+use Rattle.h2_exchange.specs.Exchange.{Sent, sent}
+use Rattle.h2_exchange.specs.Order.{received_bytes, sent_bytes}
+use Rattle.h2_exchange.specs.Sending.{IsCredited}
 use Rattle.h2_exchange.specs.Streams.{is_live, is_reset}
 use Rattle.h2_exchange.specs.Windows.{may_send}
-use Rattle.h2_exchange.proofs.Steps.{sent_more, received_more}
-use Rattle.http_connection.specs.ConnectionTrace.{ConnectionTrace, Refusal, dropped_more, held, is_alive, wrote}
+use Rattle.http_connection.specs.ConnectionTrace.{Refusal, dropped_more, held, is_alive, wrote}
 use Rattle.http_connection.specs.Sends.{CarryCredit}
-use Rattle.http_connection.proofs.Unheard.{none_received}
 use Rattle.grpc_stream.specs.CallTrace.{CallTrace, changed, unsent_on, waiting_in}
 use Rattle.table_lock.specs.Passes.{IsSound, PassView}
 use Rattle.rib_core.specs.Recorded.{IsLawful}
@@ -35,24 +29,22 @@ use Rattle.call_answers.specs.declared.orders.Setting.{Setting}
 use Rattle.call_orders.specs.Calls.{Action, standing}
 use Rattle.call_orders.specs.Orders.{staying}
 use Rattle.session_engine.specs.Queries.{OpenCallsView, call_on, is_responding, session_in}
-use Rattle.server_turns.specs.declared.outcome.TurnEnd.{TurnEnd}
-use Rattle.server_turns.specs.declared.outcome.TurnEnd.TheVariants.{Idle, Progress}
-use Rattle.server_turns.specs.Making.{MadeLast, Makes}
+use Rattle.server_turns.specs.declared.outcome.TurnEnd.TheVariants.{Idle}
+use Rattle.server_turns.specs.Making.{MadeLast}
 use Rattle.server_turns.specs.Past.{Past, awaits_from, collects, is_progress, leaves_some}
-use Rattle.server_turns.specs.Serving.{Account, EndsWhole, IsAnswered, NoneOpen}
+use Rattle.server_turns.specs.Serving.{Account, EndsWhole, IsAnswered}
 use Rattle.server_turns.specs.Turning.{unsent, Counts, During, GoesOn, IsAnswer, IsOwedCollect, IsProgress, KeepsUp, behind, moved, written}
-use Rattle.server_account.specs.Agreeing.{IsServer, IsSettled, IsTold, account_of, none_left}
-use Rattle.server_account.specs.Laws.{PumpsKeepUp}
+use Rattle.server_account.specs.Agreeing.{IsSettled, account_of, none_left}
 use Rattle.session_engine.specs.Queries.{is_asking}
 use Rattle.server_conn.specs.declared.conn.Cause.{Cause}
 use Rattle.server_conn.specs.Standing.{EndsBy, Goes, NoneWaits, Works, is_spent_by, past_of}
-use Rattle.server_conn.specs.Steps.{CollectsAll, CollectsDue, Grows, Holds, IsNoMore, IsPumped, MUCH, Responds, Writes, got}
+use Rattle.server_conn.specs.Steps.{CollectsAll, CollectsDue, Holds, MUCH, Responds, Writes, got}
 use Rattle.server_conn.specs.Turns.{AreAnsweredIfIdle, TakesIn, TurnsLast, TurnsOn, answer_by}
 use Rattle.server_conn.proofs.Accounts.{agreement_serves, one_waits, pumps_keep_up}
-use Rattle.server_conn.proofs.Grown.{grows_then, made_more, prefix_more, prefix_refl}
+use Rattle.server_conn.proofs.Grown.{made_more, prefix_more, prefix_refl}
 use Rattle.server_conn.proofs.Sessions.{In, open_stands, stays_open}
-use Rattle.server_conn.proofs.Served.{is_none, none_open, none_waits, true_false, false_true}
-use Rattle.server_conn.proofs.Turning.{SoFar, begins, gathers, got_bytes, got_sends_none, holds, last_quiet, none_of, puts, received_then, responds, size_got, size_then}
+use Rattle.server_conn.proofs.Served.{is_none, none_open, none_waits, true_false}
+use Rattle.server_conn.proofs.Turning.{SoFar, begins, gathers, got_sends_none, holds, last_quiet, none_of, puts, received_then, responds, size_got, size_then}
 use Rattle.server_conn.proofs.Turned.{by_contra, choose, credit_unheard, moved_in, or_known, or_right, output_grows, received_got, whole_behind, whole_same}
 
 second_of : (a b : Bool) → (a && b) ≡ true → b ≡ true

@@ -1,5 +1,5 @@
 -- A connection that is over keeps the promise.
-use Rattle.std.proofs.Common.{◌≡◌, ◌⊎◌, ℕ, ◌+◌, ◌-◌, ◌^◌, ◌<◌, ◌≤◌, ◌||◌, min, Bool, true, false, length, List, [], ◌++◌, Option, Some, None, inl, inr, refl, sym, ap, ◌∙◌, subst, append_assoc, append-nil, arith}
+use Rattle.std.proofs.Common.{◌≡◌, ◌⊎◌, ℕ, ◌+◌, ◌-◌, ◌^◌, ◌<◌, ◌≤◌, ◌||◌, Bool, true, false, List, [], ◌++◌, Some, inl, inr, refl, sym, ap, ◌∙◌, subst, append_assoc, append-nil, arith}
 use Rattle.std.specs.List.{flat_map}
 use Rattle.rig_io.specs.Fault.{HasCause, HasRisen, StaysUnless}
 use Rattle.rig_io.specs.Link as link
@@ -15,18 +15,17 @@ use Rattle.session_engine.specs.Queries.{OpenCallsView}
 use Rattle.server_turns.specs.declared.outcome.Outcome.{Outcome}
 use Rattle.server_turns.specs.declared.outcome.Outcome.TheVariants as over
 use Rattle.server_turns.specs.declared.outcome.TurnEnd.TheVariants.{Over}
-use Rattle.server_turns.specs.Making.{MadeLast, Makes}
+use Rattle.server_turns.specs.Making.{Makes}
 use Rattle.server_turns.specs.Past.{Past}
 use Rattle.server_turns.specs.Serving.{Account}
 use Rattle.server_turns.specs.Turning.{Counts, During, GoesOn, IsFault, MayFail, behind, is_spent}
 use Rattle.server_turns.proofs.Runs.{makes_then}
-use Rattle.server_account.specs.Agreeing.{account_of}
 use Rattle.server_conn.specs.declared.conn.Cause.{Cause}
 use Rattle.server_conn.specs.declared.conn.Cause.TheVariants.{Ends, Spent}
-use Rattle.server_conn.specs.Standing.{EndsBy, Goes, IsOver, KeptBy, MayEnd, StandsAs, past_of}
+use Rattle.server_conn.specs.Standing.{EndsBy, Goes, IsOver, KeptBy, MayEnd, past_of}
 use Rattle.server_conn.specs.Steps.{is_fault_by}
 use Rattle.server_conn.specs.Turns.{TurnsLast, TurnsOver, goes_away}
-use Rattle.server_conn.proofs.Served.{false_true, true_false}
+use Rattle.server_conn.proofs.Served.{false_true}
 use Rattle.server_conn.proofs.Turned.{or_known}
 use Rattle.server_conn.proofs.Turning.{size_then}
 

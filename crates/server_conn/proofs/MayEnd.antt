@@ -14,7 +14,7 @@ use Rattle.call_answers.specs.declared.orders.Setting.{Setting}
 use Rattle.call_orders.specs.Owed.{has_end}
 use Rattle.call_orders.specs.Calls.{Action, Collects, standing}
 use Rattle.call_orders.specs.Actions.{calls_in, events_in}
-use Rattle.call_orders.specs.Orders.{AllHandled, AllLeave, HasStopped, IsOver, IsRunning, IsSpent, staying}
+use Rattle.call_orders.specs.Orders.{AllHandled, AllLeave, HasStopped, IsOver, IsRunning, staying}
 use Rattle.session_engine.specs.Queries.{OpenCallsView}
 use Rattle.server_turns.specs.declared.outcome.Outcome.{Outcome}
 use Rattle.server_turns.specs.declared.outcome.Outcome.TheVariants as over

@@ -7,29 +7,28 @@ use Rattle.h2_exchange.specs.Exchange.{received}
 use Rattle.h2_exchange.specs.StreamParts.{Item}
 use Rattle.h2_exchange.specs.Order.{peer_preface}
 use Rattle.h2_exchange.specs.declared.role.Role.TheVariants.{Server}
-use Rattle.h2_exchange.specs.Sending.{IsPrefix}
 use Rattle.h2_frames.specs.Stream.{Frames}
-use Rattle.http_connection.specs.ConnectionTrace.{ConnectionTrace, is_alive, stop_in}
-use Rattle.grpc_stream.specs.CallTrace.{CallTrace, IsSoundCallTrace, Asked, begins_on, reported_by, waiting_in}
+use Rattle.http_connection.specs.ConnectionTrace.{ConnectionTrace, stop_in}
+use Rattle.grpc_stream.specs.CallTrace.{CallTrace, begins_on, reported_by, waiting_in}
 use Rattle.grpc_stream.specs.Sends.{Pumps}
 use Rattle.call_answers.specs.declared.orders.Setting.{Setting}
 use Rattle.call_orders.specs.Owed.{has_end, selected_items}
-use Rattle.call_orders.specs.Calls.{CallState, NotBegun, Responds, Over, Standing, Action, Continues, after, continued, cut_by, next_items, standing, waiting_behind}
-use Rattle.call_orders.specs.Orders.{IsRunning}
+use Rattle.call_orders.specs.Calls.{CallState, NotBegun, Responds, Over, Standing, Action, Continues, continued, cut_by, standing}
 use Rattle.session_engine.specs.declared.open_calls.OpenCall.{OpenCall}
 use Rattle.session_engine.specs.declared.open_calls.OpenCall.TheVariants as opened
 use Rattle.session_engine.specs.declared.step.Step.{Step}
 use Rattle.session_engine.specs.Laws.{FollowsBy}
 use Rattle.session_engine.specs.Queries.{OpenCallsView, call_on, is_responding}
-use Rattle.session_engine.specs.Stands.{ContinuesCall, IsUnended, Stands, items_in}
+use Rattle.session_engine.specs.Stands.{ContinuesCall, Stands, items_in}
 use Rattle.session_engine.proofs.Follows.{actions_follow}
-use Rattle.server_account.specs.Agreeing.{Agrees, AreHandled, AreBrought, IsServer, IsSettled, left_on}
+use Rattle.server_account.specs.Agreeing.{IsSettled}
 use Rattle.server_account.proofs.Hears.{handled_continues}
-use Rattle.server_account.proofs.Uses.{handled_pumps, received_same, server_pumps, settled_pumps, told_pumps}
+use Rattle.server_account.proofs.Uses.{received_same}
 use Rattle.server_conn.specs.Standing.{Works}
 use Rattle.server_conn.specs.Steps.{Grows, IsEnough, IsNoMore, IsPumped, Owes, RespondsSome}
 use Rattle.server_conn.specs.Steps as steps
 use Rattle.server_conn.proofs.Grown.{grows_refl, grows_then, prefix_more, prefix_refl}
+use Rattle.server_conn.proofs.Handed.{grows_beside}
 use Rattle.server_conn.proofs.HeardOf.{told_begun}
 use Rattle.server_conn.proofs.Served.{false_true}
 use Rattle.table_model.specs.Event.{Event}
@@ -44,13 +43,6 @@ module _ (t u : CallTrace) (same : u.connection_trace ≡ t.connection_trace) wh
     alive = ap (λ (c : ConnectionTrace). c.refusal) same ∙ k.alive;
     unstopped = ap (λ (c : ConnectionTrace). stop_in c) same ∙ k.unstopped;
     whole = subst (λ (c : ConnectionTrace). Frames (peer_preface Server) c.fed (received c.frames) rest) (sym same) k.whole;
-  }
-
-  pub grows_same : Grows t u
-  grows_same = record {
-    limits = ap (λ (c : ConnectionTrace). c.limits) same;
-    heads = subst (λ (c : ConnectionTrace). IsPrefix t.connection_trace.heads c.heads) (sym same) (prefix_refl t.connection_trace.heads);
-    frames = subst (λ (c : ConnectionTrace). IsPrefix t.connection_trace.frames c.frames) (sym same) (prefix_refl t.connection_trace.frames);
   }
 
 -- ---- a pump
@@ -184,7 +176,7 @@ module _ {K : Type 0} (uses : K → CallTrace → Type 0) (output : K → List �
     actions = actions;
     works = h;
     settled = settled_v;
-    grows = grows_then t u v (grows_same t u same) (grows_pumps u v pumps);
+    grows = grows_then t u v (grows_beside t u same) (grows_pumps u v pumps);
     pumped = is_pumped u v rest waiting settled_u pumps waits;
     received = received_pumps u v pumps ∙ ap (λ (c : ConnectionTrace). received c.frames) same;
     fewer = fewer;

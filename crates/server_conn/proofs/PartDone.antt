@@ -4,7 +4,6 @@ use Rattle.rig_io.specs.Link.{Piece}
 use Rattle.grpc_heads.specs.CallEnd.{CallEnd}
 use Rattle.grpc_heads.specs.declared.head.Method.{Method}
 use Rattle.h2_exchange.specs.Calls.{Call}
-use Rattle.h2_exchange.specs.StreamParts.{Item}
 use Rattle.grpc_stream.specs.CallTrace.{CallTrace, Asked}
 use Rattle.table_model.specs.Event.{Event}
 use Rattle.call_answers.specs.declared.orders.Setting.{Setting}

@@ -1,5 +1,5 @@
 -- A pass that made entries is one of its lock still, and sound.
-use Rattle.std.proofs.Common.{◌≡◌, ◌++◌, Bool, true, false, List, Some, ap, subst, sym, ◌∙◌}
+use Rattle.std.proofs.Common.{◌≡◌, ◌++◌, Bool, true, false, List, ap, subst, sym, ◌∙◌}
 use Rattle.table_lock.specs.Passes.{IsPassOf, IsSound, LockView, PassView}
 use Rattle.rib_core.specs.Recorded.{IsLawful}
 use Rattle.table_model.specs.declared.command.Command.{Command}

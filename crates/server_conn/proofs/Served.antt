@@ -1,17 +1,15 @@
 -- All is served.
 use Rattle.std.proofs.lemmas.Bool.Decides.{nat_tests}
-use Rattle.std.proofs.Common.{◌≡◌, ◌==◌, ℕ, Bool, true, false, arith, length, List, [], ◌∷◌, Option, Some, None, inl, inr, refl, sym, ap, ◌∙◌, subst}
+use Rattle.std.proofs.Common.{◌≡◌, ◌==◌, ℕ, Bool, true, false, arith, length, List, [], ◌∷◌, Option, Some, None, inl, inr, refl, sym, ap, ◌∙◌}
 use Rattle.rig_io.specs.Link.{Piece}
 use Rattle.grpc_stream.specs.CallTrace.{CallTrace}
 use Rattle.table_model.specs.Event.{Event}
 use Rattle.call_answers.specs.declared.orders.Setting.{Setting}
-use Rattle.call_orders.specs.Calls.{Action, CallState, NotBegun, Modifies, Receives, Responds, Over, standing, waiting_in}
-use Rattle.h2_exchange.specs.StreamParts.{Item}
-use Rattle.grpc_heads.specs.CallEnd.{CallEnd}
+use Rattle.call_orders.specs.Calls.{Action, CallState, Modifies, Receives, Responds, standing, waiting_in}
 use Rattle.session_engine.specs.declared.open_calls.OpenCall.{OpenCall}
 use Rattle.session_engine.specs.declared.open_calls.OpenCall.TheVariants as opened
 use Rattle.session_engine.specs.Queries.{OpenCallsView, call_on, is_responding, session_in}
-use Rattle.session_engine.specs.Stands.{Stands, state_of}
+use Rattle.session_engine.specs.Stands.{Stands}
 use Rattle.server_turns.specs.declared.outcome.Outcome.TheVariants as over
 use Rattle.server_turns.specs.Serving.{EndsWhole, is_going, is_open_call}
 use Rattle.server_account.specs.Agreeing.{IsSettled, account_of}

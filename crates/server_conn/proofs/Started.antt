@@ -1,9 +1,7 @@
 -- A new connection, and what is counted of one.
-use Rattle.std.proofs.Common.{◌≡◌, ℕ, ◌-◌, ◌^◌, min, Bool, true, false, List, [], Option, Some, None, refl}
-use Rattle.std.specs.List.{flat_map}
+use Rattle.std.proofs.Common.{◌≡◌, ℕ, ◌-◌, ◌^◌, min, Bool, false, List, [], Option, Some, None, refl}
 use Rattle.h2_exchange.specs.declared.limits.H2Limits.{H2Limits}
 use Rattle.h2_exchange.specs.declared.role.Role.TheVariants.{Server}
-use Rattle.h2_frames.specs.declared.frame.Frame.{Frame}
 use Rattle.http_connection.specs.ConnectionTrace.{IsNew, begun}
 use Rattle.grpc_stream.specs.CallTrace.{CallTrace, IsSoundCallTrace, fresh}
 use Rattle.call_answers.specs.declared.orders.Setting.{Setting}
@@ -13,7 +11,7 @@ use Rattle.server_turns.specs.declared.outcome.Outcome.{Outcome}
 use Rattle.server_turns.specs.Past.{Past, nothing}
 use Rattle.server_turns.specs.Serving.{Account, IsServerLimits, refused_in}
 use Rattle.server_account.specs.Agreeing.{account_of}
-use Rattle.server_conn.specs.Standing.{Goes, StandsAs}
+use Rattle.server_conn.specs.Standing.{StandsAs}
 use Rattle.server_conn.proofs.Accounts.{agreement_serves, connection_starts}
 use Rattle.server_conn.proofs.Served.{false_true}
 

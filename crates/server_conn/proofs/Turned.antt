@@ -1,9 +1,7 @@
 -- A turn after which a connection goes on: what its parts came to.
-use Rattle.std.proofs.Common.{◌≡◌, ◌⊎◌, ◌↔◌, ℕ, ◌+◌, ◌-◌, ◌^◌, ◌<◌, ◌≤◌, ◌==◌, ◌||◌, min, Bool, true, false, not, length, List, [], ◌∷◌, ◌++◌, Option, Some, None, is_some, inl, inr, refl, sym, ap, ◌∙◌, subst, append_assoc, append-nil, arith, length-append, map, sum_by, nat_le}
-use Rattle.std.specs.List.{flat_map, list_any}
-use Rattle.std.proofs.lemmas.Bool.Decides.{nat_tests}
+use Rattle.std.proofs.Common.{◌≡◌, ◌⊎◌, ◌↔◌, ℕ, ◌+◌, ◌-◌, ◌^◌, ◌<◌, ◌≤◌, ◌==◌, ◌||◌, Bool, true, false, length, List, [], ◌∷◌, ◌++◌, None, refl, sym, ap, ◌∙◌, subst, append-nil, arith, length-append, map, sum_by}
+use Rattle.std.specs.List.{flat_map}
 use Rattle.std.proofs.lemmas.Grind.{flat_map-append}
-use Rattle.std.proofs.lemmas.List.Folds.{list_any-append}
 use Rattle.std.proofs.lemmas.List.Sums.{sum_by-append}
 use Rattle.rig_io.specs.Fault.{HasRisen}
 use Rattle.rig_io.specs.Link as link
@@ -16,39 +14,28 @@ use Rattle.h2_exchange.specs.declared.role.Role.TheVariants.{Server}
 use Rattle.h2_exchange.specs.Blocks.{open_block}
 use Rattle.h2_exchange.specs.Exchange.{Step, Sent, received, sent, sent_text}
 use Rattle.h2_exchange.specs.Order.{own_preface, peer_preface, received_bytes, sent_bytes}
-use Rattle.h2_exchange.specs.Sending.{IsCredited, IsPrefix}
-use Rattle.h2_exchange.specs.Streams.{is_live, is_reset}
-use Rattle.h2_exchange.specs.Windows.{may_send}
+use Rattle.h2_exchange.specs.Sending.{IsPrefix}
 use Rattle.h2_exchange.proofs.Steps.{sent_more, received_more}
-use Rattle.http_connection.specs.ConnectionTrace.{ConnectionTrace, Refusal, dropped_more, held, is_alive, wrote}
-use Rattle.http_connection.specs.Sends.{CarryCredit}
+use Rattle.http_connection.specs.ConnectionTrace.{ConnectionTrace, dropped_more, held, wrote}
 use Rattle.http_connection.proofs.Unheard.{none_received}
-use Rattle.grpc_stream.specs.CallTrace.{CallTrace, changed, unsent_on, waiting_in}
-use Rattle.table_lock.specs.Passes.{IsSound, PassView}
-use Rattle.rib_core.specs.Recorded.{IsLawful}
+use Rattle.grpc_stream.specs.CallTrace.{CallTrace, changed}
+use Rattle.table_lock.specs.Passes.{PassView}
 use Rattle.table_model.specs.declared.command.Command.{Command}
 use Rattle.table_model.specs.declared.command.Config.{Config}
 use Rattle.table_model.specs.declared.reply.Reply.{Reply}
 use Rattle.table_model.specs.Event.{Event}
 use Rattle.call_answers.specs.declared.orders.Setting.{Setting}
-use Rattle.call_orders.specs.Calls.{Action, standing}
-use Rattle.call_orders.specs.Orders.{staying}
-use Rattle.session_engine.specs.Queries.{OpenCallsView, call_on, is_responding, session_in}
-use Rattle.server_turns.specs.declared.outcome.TurnEnd.{TurnEnd}
-use Rattle.server_turns.specs.declared.outcome.TurnEnd.TheVariants.{Idle, Progress}
-use Rattle.server_turns.specs.Making.{MadeLast, Makes}
-use Rattle.server_turns.specs.Past.{Past, collects, is_progress, leaves_some}
-use Rattle.server_turns.specs.Serving.{Account, EndsWhole, IsAnswered, NoneOpen}
-use Rattle.server_turns.specs.Turning.{Counts, During, GoesOn, IsAnswer, IsOwedCollect, IsProgress, KeepsUp, behind, moved, written}
-use Rattle.server_account.specs.Agreeing.{IsServer, IsSettled, IsTold, account_of, none_left}
-use Rattle.server_account.specs.Laws.{PumpsKeepUp}
+use Rattle.call_orders.specs.Calls.{Action}
+use Rattle.session_engine.specs.Queries.{OpenCallsView, call_on}
+use Rattle.server_turns.specs.Past.{Past}
+use Rattle.server_turns.specs.Serving.{Account, EndsWhole}
+use Rattle.server_turns.specs.Turning.{Counts, During, moved}
+use Rattle.server_account.specs.Agreeing.{account_of}
 use Rattle.session_engine.specs.Queries.{is_asking}
-use Rattle.server_conn.specs.Standing.{Goes, NoneWaits, Works, past_of}
-use Rattle.server_conn.specs.Steps.{CollectsAll, Grows, Holds, IsNoMore, IsPumped, MUCH, Responds, Writes, got}
-use Rattle.server_conn.specs.Turns.{AreAnsweredIfIdle, TakesIn, TurnsOn, answer_by}
-use Rattle.server_conn.proofs.Grown.{grows_then, made_more, prefix_more, prefix_refl}
-use Rattle.server_conn.proofs.Served.{is_none, none_open, none_waits, true_false, false_true}
-use Rattle.server_conn.proofs.Turning.{SoFar, got_bytes, got_sends_none, none_of, received_then, size_got, size_then}
+use Rattle.server_conn.specs.Standing.{NoneWaits, Works, past_of}
+use Rattle.server_conn.specs.Steps.{CollectsAll, Grows, Holds, IsNoMore, MUCH, Responds, Writes, got}
+use Rattle.server_conn.specs.Turns.{TakesIn, TurnsOn}
+use Rattle.server_conn.proofs.Turning.{got_bytes, got_sends_none, received_then}
 
 -- ---- tests
 

@@ -1,25 +1,15 @@
 -- What the parts of a turn come to, one behind another.
-use Rattle.std.proofs.Common.{◌≡◌, ◌⊎◌, ◌↔◌, ℕ, ◌+◌, ◌-◌, ◌^◌, ◌<◌, ◌≤◌, ◌==◌, ◌||◌, min, Bool, true, false, length, List, [], ◌∷◌, ◌++◌, Option, Some, None, inl, inr, refl, sym, ap, ◌∙◌, subst, append_assoc, append-nil, arith, length-append, map, sum_by}
-use Rattle.std.specs.List.{flat_map, list_any}
+use Rattle.std.proofs.Common.{◌≡◌, ◌⊎◌, ◌↔◌, ℕ, ◌+◌, ◌-◌, ◌^◌, ◌<◌, ◌≤◌, ◌==◌, ◌||◌, Bool, true, false, length, List, [], ◌∷◌, ◌++◌, Option, Some, None, inl, refl, sym, ap, ◌∙◌, subst, append_assoc, append-nil, arith, map}
+use Rattle.std.specs.List.{flat_map}
 use Rattle.std.specs.Option.{option_map}
 use Rattle.std.proofs.lemmas.Grind.{flat_map-append}
 use Rattle.rig_io.specs.Fault.{HasRisen}
 use Rattle.rig_io.specs.Link as link
 use Rattle.rig_io.specs.Link.{Piece}
-use Rattle.h2_frames.specs.declared.frame.Frame.{Frame}
-use Rattle.h2_frames.specs.Layout.{frame_text}
-use Rattle.h2_exchange.specs.declared.role.Role.{Role}
-use Rattle.h2_exchange.specs.declared.role.Role.TheVariants.{Server}
-use Rattle.h2_exchange.specs.Exchange.{Step, Sent, received, sent, sent_text}
-use Rattle.h2_exchange.specs.Order.{own_preface, peer_preface, received_bytes, sent_bytes}
-use Rattle.h2_frames.specs.Stream.{Frames}
-use Rattle.schema_numbers.specs.Numbers.{Numbers}
-use Rattle.h2_exchange.specs.Sending.{IsPrefix}
-use Rattle.h2_exchange.proofs.Steps.{sent_more, received_more}
-use Rattle.http_connection.specs.ConnectionTrace.{ConnectionTrace, dropped_more, held, is_alive, stop_in, wrote}
-use Rattle.http_connection.specs.Sends.{CarryCredit}
-use Rattle.http_connection.proofs.Unheard.{none_received}
-use Rattle.grpc_stream.specs.CallTrace.{CallTrace, PeerEvent, changed, reported_by, reported_in}
+use Rattle.h2_exchange.specs.Exchange.{Sent}
+use Rattle.h2_exchange.specs.Order.{received_bytes, sent_bytes}
+use Rattle.http_connection.specs.ConnectionTrace.{dropped_more, held, wrote}
+use Rattle.grpc_stream.specs.CallTrace.{CallTrace, changed}
 use Rattle.table_lock.specs.Passes.{IsSound, PassView}
 use Rattle.table_lock.proofs.Extends.{extended_none}
 use Rattle.rib_core.specs.Recorded.{IsLawful}
@@ -29,18 +19,17 @@ use Rattle.table_model.specs.declared.reply.Reply.{Reply}
 use Rattle.table_model.specs.Event.{Event}
 use Rattle.call_answers.specs.declared.orders.Setting.{Setting}
 use Rattle.call_orders.specs.Calls.{Action}
-use Rattle.session_engine.specs.Queries.{OpenCallsView, call_on}
-use Rattle.server_turns.specs.Making.{MadeLast, Makes}
+use Rattle.session_engine.specs.Queries.{OpenCallsView}
+use Rattle.server_turns.specs.Making.{Makes}
 use Rattle.server_turns.specs.Past.{Past}
-use Rattle.server_turns.specs.Serving.{Account}
-use Rattle.server_turns.specs.Turning.{Counts, During}
+use Rattle.server_turns.specs.Turning.{Counts}
 use Rattle.server_turns.proofs.Runs.{makes_then}
-use Rattle.server_account.specs.Agreeing.{IsServer, IsSettled, IsTold, account_of}
+use Rattle.server_account.specs.Agreeing.{IsSettled}
 use Rattle.server_conn.specs.declared.conn.Cause.{Cause}
-use Rattle.server_conn.specs.Standing.{EndsBy, Goes, Works, is_spent_by, past_of}
-use Rattle.server_conn.specs.Steps.{CollectsAll, GoesTo, Grows, HearsAll, Holds, Reads, Responds, StopsBy, Writes, got}
-use Rattle.server_conn.specs.Turns.{TakesIn, TurnsLast, TurnsOn}
-use Rattle.server_conn.proofs.Grown.{ends_from, grows_refl, grows_then, made_more, prefix_more, prefix_refl}
+use Rattle.server_conn.specs.Standing.{EndsBy, Works, is_spent_by, past_of}
+use Rattle.server_conn.specs.Steps.{CollectsAll, Grows, HearsAll, Holds, Reads, Responds, StopsBy, Writes, got}
+use Rattle.server_conn.specs.Turns.{TakesIn, TurnsLast}
+use Rattle.server_conn.proofs.Grown.{ends_from, grows_then, prefix_more, prefix_refl}
 use Rattle.server_conn.proofs.NextResponse.{settled_same}
 
 -- ---- what a link told

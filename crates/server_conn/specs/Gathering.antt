@@ -1,5 +1,5 @@
 -- What comes of Collects while each session is collected once.
-use Rattle.std.specs.Prelude.{◌≡◌, ℕ, ◌<◌, ◌≤◌, Bool, true, false, List, Option, Some}
+use Rattle.std.specs.Prelude.{◌≡◌, ℕ, ◌<◌, ◌≤◌, Bool, true, false, List, Some}
 use Rattle.std.specs.List.{list_any}
 use Rattle.rig_io.specs.Link.{Piece}
 use Rattle.grpc_stream.specs.CallTrace.{CallTrace}

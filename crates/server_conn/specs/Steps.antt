@@ -3,7 +3,7 @@ use Rattle.std.specs.Prelude.{◌≡◌, ◌⊎◌, ◌↔◌, ℕ, ◌+◌, ◌
 use Rattle.std.specs.List.{flat_map, list_any}
 use Rattle.std.specs.Option.{option_map}
 use Rattle.rig_io.specs.Fault.{HasRisen}
-use Rattle.rig_io.specs.Link.{Piece, received, sent, received_bytes, sent_bytes}
+use Rattle.rig_io.specs.Link.{Piece, received, sent, sent_bytes}
 use Rattle.h2_frames.specs.declared.frame.Frame.{Frame}
 use Rattle.grpc_heads.specs.CallEnd.{CallEnd}
 use Rattle.h2_exchange.specs.Exchange as exchange

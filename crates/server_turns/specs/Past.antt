@@ -1,7 +1,6 @@
 -- What a connection was used for since its first turn. No object stores it: each turn carries it on.
-use Rattle.std.specs.Prelude.{◌≡◌, ◌⊎◌, ℕ, ◌&&◌, ◌||◌, ◌==◌, Bool, true, false, not, map, reverse, List, [], ◌∷◌, ◌++◌, Option, Some, None, if◌then◌else◌}
+use Rattle.std.specs.Prelude.{◌≡◌, ◌⊎◌, ℕ, ◌&&◌, ◌||◌, ◌==◌, Bool, true, false, not, reverse, List, [], ◌∷◌, ◌++◌, if◌then◌else◌}
 use Rattle.rig_io.specs.Link as link
-use Rattle.table_model.specs.declared.command.Command.{Command}
 use Rattle.table_model.specs.declared.command.Command.TheVariants as command
 use Rattle.table_model.specs.declared.reply.Reply.{Reply}
 use Rattle.table_model.specs.declared.reply.Reply.TheVariants as reply

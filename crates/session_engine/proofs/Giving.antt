@@ -1,5 +1,5 @@
 -- The next response of a Get.
-use Rattle.std.proofs.Common.{◌≡◌, ℕ, zero, suc, ◌+◌, ◌-◌, ◌==◌, ◌<◌, ◌≤◌, Bool, true, false, not, if◌then◌else◌, is_some, map, drop, length, IfSome, List, [], ◌∷◌, ◌++◌, Option, Some, None, refl, sym, ap, ◌∙◌, subst, append_assoc, append-nil, arith, inr}
+use Rattle.std.proofs.Common.{◌≡◌, ℕ, suc, ◌+◌, ◌-◌, ◌==◌, ◌<◌, ◌≤◌, Bool, true, false, not, if◌then◌else◌, is_some, map, drop, length, List, [], ◌∷◌, ◌++◌, Option, Some, None, refl, sym, ap, ◌∙◌, subst, append_assoc, append-nil, arith, inr}
 use Rattle.std.specs.Prelude.{All}
 use Rattle.std.proofs.lemmas.List.{length-drop, map-append}
 use Rattle.std.proofs.lemmas.List.Elements.{All-drop}
@@ -7,8 +7,8 @@ use Rattle.std.proofs.lemmas.Bool.Decides.{nat_tests}
 use Rattle.aft_entries.specs.declared.operation.Row.{Row}
 use Rattle.gribi_messages.specs.Rows.{RowHasKnownInstances}
 use Rattle.grpc_heads.specs.GrpcStatus.{GrpcStatus}
-use Rattle.grpc_heads.specs.CallEnd.{CallEnd, Status}
-use Rattle.h2_exchange.specs.StreamParts.{Item, Message, Finish}
+use Rattle.grpc_heads.specs.CallEnd.{CallEnd}
+use Rattle.h2_exchange.specs.StreamParts.{Item, Message}
 use Rattle.call_answers.specs.declared.orders.Setting.{Setting}
 use Rattle.call_requests.specs.Responses.{get_responses}
 use Rattle.call_orders.specs.Owed.{end_items, has_end, items_by, ok, selected_items, want_of_memory}

@@ -22,7 +22,7 @@ use Rattle.session_engine.specs.declared.step.Step.{Step}
 use Rattle.session_engine.specs.declared.step.Progress.{Progress}
 use Rattle.session_engine.specs.declared.step.Progress.TheVariants.{GoesOn, Ended, OutOfMemory, Spent}
 use Rattle.session_engine.specs.Queries.{OpenCallsView, call_on, open_session, session_in}
-use Rattle.session_engine.specs.Stands.{AreSameElsewhere, CollectsFor, DoesAction, HandlesCall, IsSpentBehind, IsSpentIn, IsUnended, MakesEntries, Stands, StopsIn, items_in, leaves_by}
+use Rattle.session_engine.specs.Stands.{AreSameElsewhere, CollectsFor, HandlesCall, IsSpentBehind, IsSpentIn, IsUnended, MakesEntries, Stands, StopsIn, items_in, leaves_by}
 use Rattle.session_engine.specs.Steps.{ClosesCall, CollectsResults, DoesMessage, PassGoes, StopsClosing, asked_by_message, collect_entry, refused_by_message}
 use Rattle.session_engine.proofs.CommandRuns.{entries_then, or_false}
 use Rattle.session_engine.proofs.Taking.{CollectMakes, IsClosedStep, IsLast, RequestMakes, at_session, collect_makes, no_leaves, request_makes, settled_state, without_tail}

@@ -1,5 +1,5 @@
 -- The next response of a Get: what it takes of the rows, and what its step gets.
-use Rattle.std.specs.Prelude.{◌≡◌, ℕ, ◌<◌, Bool, true, false, is_some, length, List, ◌++◌, Option, Some, None}
+use Rattle.std.specs.Prelude.{◌≡◌, ◌<◌, true, false, is_some, length, List, ◌++◌, Option, Some, None}
 use Rattle.aft_entries.specs.declared.operation.Row.{Row}
 use Rattle.call_answers.specs.declared.orders.Setting.{Setting}
 use Rattle.call_orders.specs.Owed.{has_end, selected_items}

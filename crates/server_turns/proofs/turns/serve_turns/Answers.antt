@@ -1,8 +1,6 @@
-use Rattle.std.proofs.Common.{◌≡◌, ℕ, true, false, None, Some, refl, sym, ap, ◌∙◌, subst}
+use Rattle.std.proofs.Common.{◌≡◌, ℕ, false, None, Some, refl, ◌∙◌, subst}
 use Rattle.rig_io.specs.Fault.{HasCause, StaysUnless}
 use Rattle.server_turns.specs.declared.outcome.TurnEnd.TheVariants.{Over}
-use Rattle.server_turns.specs.Past.{Past}
-use Rattle.server_turns.specs.Serving.{Account}
 use Rattle.server_turns.specs.Turning.{IsFault, MayFail, is_spent}
 use Rattle.server_turns.proofs.Runs.{ran_more, ran_none, unfaulted}
 use Rattle.server_turns.proofs.turns.serve_turns.Goals as goal

@@ -1,4 +1,4 @@
-use Rattle.std.proofs.Common.{◌++◌, ◌∙◌, [], refl, ap, nat_le, sym}
+use Rattle.std.proofs.Common.{◌++◌, ◌∙◌, [], refl, ap, nat_le}
 use Rattle.std.proofs.lemmas.Result.{err_from_is_err_and}
 use Rattle.http_connection.specs.ConnectionTrace.{held, wrote}
 use Rattle.grpc_stream.specs.CallTrace.{changed}
@@ -7,7 +7,7 @@ use Rattle.server_conn.specs.Steps.{MUCH, got}
 use Rattle.server_conn.proofs.Grown.{made_more}
 use Rattle.server_conn.proofs.Keeping.{idle_now, served_last, turns_on}
 use Rattle.server_conn.proofs.Turned.{end_told, holds_at, idle_at, takes_at, turns_at, whole_behind, writes_at}
-use Rattle.server_conn.proofs.Turning.{begins, gathers, holds, last_first, last_made, last_quiet, last_written, puts, responds, size_got, size_then, told_then}
+use Rattle.server_conn.proofs.Turning.{begins, gathers, holds, last_first, last_made, last_quiet, last_written, responds, size_got, told_then}
 use Rattle.server_conn.proofs.conn.ServerConn.go.Goals as goal
 
 pub returns-in_err-has_read-clause-goes : goal.returns-in_err-has_read-clause-goes

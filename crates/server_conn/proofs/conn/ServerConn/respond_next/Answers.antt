@@ -3,7 +3,8 @@ use Rattle.std.proofs.lemmas.Result.{err_from_is_err_and}
 use Rattle.session_engine.specs.Queries.{call_on}
 use Rattle.server_conn.specs.Steps.{IsNoMore}
 use Rattle.server_conn.proofs.Grown.{ends_from}
-use Rattle.server_conn.proofs.NextResponse.{asked_no_more, grows_same, owes_next, responds_none, responds_one, settled_same}
+use Rattle.server_conn.proofs.Handed.{grows_beside}
+use Rattle.server_conn.proofs.NextResponse.{asked_no_more, owes_next, responds_none, responds_one, settled_same}
 use Rattle.server_conn.proofs.conn.ServerConn.respond_next.Goals as goal
 
 pub returns-then-has_much-clause-goes : goal.returns-then-has_much-clause-goes
@@ -43,7 +44,7 @@ returns-in_err-pump-in-Some-clause-goes g c = (let p = err_from_is_err_and c.fro
     c.more-step.new.self c.args.self.now.refused c.in-Some.stream c.more-step.result t actions pieces own works c.in-Some.ensures.found k in
     let u = (c.in_ok-give-in-Some.ensures.goes c.args.setting.now t owed.0 pieces own refl owed.1).0 in (
       tt,
-      ends_from c.args.setting.now t u.0 (grows_same t u.0 u.1) _ _ _ _ _
+      ends_from c.args.setting.now t u.0 (grows_beside t u.0 u.1) _ _ _ _ _
           (c.in_err-pump-in-Some.ensures.goes c.args.setting.now u.0 owed.0 pieces own rest u.3
           (settled_same t u.0 u.1 rest u.2 (u.3.agrees.server.numbers ∙ sym works.agrees.server.numbers) settled)).1,
     ))))

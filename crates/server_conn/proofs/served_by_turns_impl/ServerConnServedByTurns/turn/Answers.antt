@@ -1,6 +1,6 @@
 use Rattle.std.proofs.Common.{◌++◌, ◌∙◌}
 use Rattle.server_conn.proofs.Ended.{comes_on, made_even}
-use Rattle.server_conn.proofs.Kept.{made_over, over_goes_on, over_stands}
+use Rattle.server_conn.proofs.Kept.{over_goes_on, over_stands}
 use Rattle.server_conn.proofs.Turning.{told_then}
 use Rattle.server_conn.specs.Standing.{is_spent_by}
 use Rattle.server_conn.proofs.served_by_turns_impl.ServerConnServedByTurns.turn.Goals as goal
