@@ -1,9 +1,10 @@
-//! The program `gribi`: its real streams, clock and devices, handed to `gribi_main`.
+//! The program `gribi`: its real streams, sockets, clock and devices, handed to `gribi_main`.
 #![tactic(auto)]
 
 ghost use Rattle.std.specs.Prelude.{◌≡◌, IfOk, vec_len};
 
 use aft_entries::MemDevice;
+use gribi_edge::TcpAcceptor;
 use gribi_program::{ReaderSource, SystemClock, WriterSink, gribi_main};
 use std::alloc::{AllocError, Global};
 use std::process::ExitCode;
@@ -41,16 +42,19 @@ fn main(rt: HostRuntime) -> ExitCode {
     };
     let mut input = ReaderSource::new(rt.reader());
     let mut output = WriterSink::new(io::writer(&rt));
+    let mut acceptor = TcpAcceptor::new(&rt, alloc, true);
     let mut clock = SystemClock::new(&rt);
     let Ok(mut devices) = devices(alloc) else {
         return ExitCode::from(NO_MEMORY);
     };
     let status = gribi_main(
+        &rt,
         alloc,
         &words,
         &mut input,
         &mut output,
-        devices.as_mut_slice(),
+        &mut acceptor,
+        &mut devices,
         &mut clock,
     );
     ExitCode::from(status)

@@ -1,3 +1,3 @@
 pub mod Adapters
 pub mod Settings
-pub mod Words
+pub mod Wishes

@@ -1,9 +1,0 @@
-use Rattle.std.proofs.Common.{◌∙◌, lit<}
-use Rattle.std.proofs.lemmas.Iterator.Splits.{YieldsList-from_str_split}
-use Rattle.std.proofs.lemmas.Iterator.Consumers.{YieldsList-end, YieldsList-at}
-use Rattle.gribi_program.proofs.words.parts.Goals as goal
-
-pub returns : goal.returns
-returns c =
-    let road = YieldsList-from_str_split 44 c.args.text.now (lit< tt) c.split-part-items.ensures.text c.split-part-items.ensures.has_more c.split-part-items.ensures.pattern in
-    c.loop-part.invariant ∙ (YieldsList-end (YieldsList-at c.into_iter-part-iterator.ensures.into_iter_gives road) c.loop-part.yielded _ c.loop-part.yielded_by _ _ c.in-None.is c.next.ensures.steps).0
