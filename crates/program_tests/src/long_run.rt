@@ -78,7 +78,13 @@ fn a_long_input_is_answered_to_its_end(rt: HostRuntime) -> Result<(), Fail> {
         assert!(rt; bytes.len() > TAKEN_AT_A_TIME);
         let mut input = MemSource::new(bytes, Vec::new(alloc));
         let mut output = MemSink::new(alloc, Vec::new(alloc));
-        let status = run_program(alloc, &words(alloc, &["apply"])?, &mut input, &mut output)?;
+        let status = run_program(
+            &rt,
+            alloc,
+            &words(alloc, &["apply"])?,
+            &mut input,
+            &mut output,
+        )?;
         let wanted = responses(alloc, statuses)?;
         assert!(rt; status == 0 && output.bytes() == wanted.as_slice());
     }

@@ -3,7 +3,9 @@ use crate::devices::run_program;
 use crate::program_words::words;
 use rig_io::{MemSink, MemSource};
 use std::alloc::Global;
+use std::sync::Wait;
 use std::test::Fail;
+use std::thread::Threads;
 
 // Parameters, the election id 1, and an ADD of next hop 1.
 const PARAMS: &[u8] = b"\0\0\0\0\x06\x12\x04\x08\x01\x10\x01";
@@ -68,7 +70,8 @@ pub fn joined(alloc: Global, parts: &[&[u8]]) -> Result<Vec<u8>, Fail> {
 }
 
 // Whether `apply` ends with this status and these answers.
-fn is_answered(
+fn is_answered<R: Threads + Wait + Sync>(
+    rt: &R,
     alloc: Global,
     input: &[&[u8]],
     status: u8,
@@ -77,7 +80,7 @@ fn is_answered(
     let mut source = MemSource::new(joined(alloc, input)?, Vec::new(alloc));
     let mut sink = MemSink::new(alloc, Vec::new(alloc));
     let words = words(alloc, &["apply"])?;
-    let found = run_program(alloc, &words, &mut source, &mut sink)?;
+    let found = run_program(rt, alloc, &words, &mut source, &mut sink)?;
     let wanted = joined(alloc, answers)?;
     Ok(found == status && sink.bytes() == wanted.as_slice())
 }
@@ -98,7 +101,7 @@ fn messages_are_answered(rt: HostRuntime) -> Result<(), Fail> {
         ),
     ];
     for (input, answers) in cases {
-        assert!(rt; is_answered(rt.alloc(), input, 0, answers)?);
+        assert!(rt; is_answered(&rt, rt.alloc(), input, 0, answers)?);
     }
     Ok(())
 }
@@ -116,7 +119,7 @@ fn a_reply_may_end_the_stream(rt: HostRuntime) -> Result<(), Fail> {
         ),
     ];
     for (input, answers) in cases {
-        assert!(rt; is_answered(rt.alloc(), input, 7, answers)?);
+        assert!(rt; is_answered(&rt, rt.alloc(), input, 7, answers)?);
     }
     Ok(())
 }
@@ -137,7 +140,7 @@ fn an_input_that_cannot_be_read_tells_the_place(rt: HostRuntime) -> Result<(), F
         (&[PARAMS, BAD_TAG, ELECTION], &[PARAMS_SET, UNREADABLE_20]),
     ];
     for (input, answers) in cases {
-        assert!(rt; is_answered(rt.alloc(), input, 3, answers)?);
+        assert!(rt; is_answered(&rt, rt.alloc(), input, 3, answers)?);
     }
     Ok(())
 }
@@ -150,7 +153,13 @@ fn any_pieces_are_answered_alike(rt: HostRuntime) -> Result<(), Fail> {
     for size in 1..51 {
         let mut pieces = ChunkedSource { rest: &input, size };
         let mut output = MemSink::new(alloc, Vec::new(alloc));
-        let status = run_program(alloc, &words(alloc, &["apply"])?, &mut pieces, &mut output)?;
+        let status = run_program(
+            &rt,
+            alloc,
+            &words(alloc, &["apply"])?,
+            &mut pieces,
+            &mut output,
+        )?;
         assert_eq!(rt; status, 0);
         assert_eq!(rt; output.bytes(), wanted.as_slice());
     }
