@@ -74,6 +74,8 @@ fn serve_by<
     clock: &mut C,
 ) -> u8
     requires took { A.retired_count acceptor.old ≤ A.given_count acceptor.old }
+    requires some { 1 ≤ order.now.workers }
+    requires few { order.now.workers ≤ 16 }
     requires devices { order.now.workers ≤ length devices.old.items }
     ensures serves { Serves (IsClosedOver C A.Link.pieces A.Link.faults D.contents D.faults (setting_with instances) order.now.connections order.now.workers
         (around A.given_count A.retired_count A.given A.retired A.faults acceptor.old devices.old.items)
