@@ -24,16 +24,19 @@ fn plain<'a>(alloc: Global, gates: &'a Gates) -> GatedDevice<'a> {
 }
 
 // The first client says nothing until the second was sent its trailers.
-fn are_side_by_side<R: Threads + Wait + Sync>(rt: &R, alloc: Global) -> Result<bool, AllocError> {
-    let gates = Gates::new();
+fn are_side_by_side<'a, R: Threads + Wait + Sync>(
+    rt: &R,
+    alloc: Global,
+    gates: &'a Gates,
+) -> Result<bool, AllocError> {
     let first = call(alloc, &[PARAMETERS_ALONE])?;
     let second = call(alloc, &[PARAMETERS_ALONE])?;
     let size = second.len();
     let mut links = Vec::new(alloc);
-    links.push(GatedLink::new(alloc, &gates, first, 0, Gate::First, TRAILERS, Gate::Second))?;
+    links.push(GatedLink::new(alloc, gates, first, 0, Gate::First, TRAILERS, Gate::Second))?;
     links.push(GatedLink::new(
         alloc,
-        &gates,
+        gates,
         second,
         size,
         Gate::Second,
@@ -41,7 +44,7 @@ fn are_side_by_side<R: Threads + Wait + Sync>(rt: &R, alloc: Global) -> Result<b
         Gate::First,
     ))?;
     let mut acceptor = GatedAcceptor::new(links, true);
-    let mut devices = sixteen(alloc, &gates, plain(alloc, &gates), plain(alloc, &gates))?;
+    let mut devices = sixteen(alloc, gates, plain(alloc, gates), plain(alloc, gates))?;
     let (status, output) = run(
         rt,
         alloc,
@@ -51,30 +54,34 @@ fn are_side_by_side<R: Threads + Wait + Sync>(rt: &R, alloc: Global) -> Result<b
         &mut devices,
     )?;
     let is_right = is_done(
-        &gates,
+        gates,
         status,
         output.bytes(),
         b"entries 0 installed 0 events ",
     );
-    Ok(is_right && is_up(&gates, Gate::Second) && acceptor.counts() == (2, 2))
+    Ok(is_right && is_up(gates, Gate::Second) && acceptor.counts() == (2, 2))
 }
 
 #[test]
 fn links_are_served_side_by_side(rt: HostRuntime) -> Result<(), Fail> {
-    let is_right = are_side_by_side(&rt, rt.alloc())?;
+    let gates = Gates::new();
+    let is_right = are_side_by_side(&rt, rt.alloc(), &gates)?;
     assert!(rt; is_right);
     Ok(())
 }
 
 // The first device stays in its first call until the second began one.
-fn are_on_threads<R: Threads + Wait + Sync>(rt: &R, alloc: Global) -> Result<bool, AllocError> {
-    let gates = Gates::new();
+fn are_on_threads<'a, R: Threads + Wait + Sync>(
+    rt: &R,
+    alloc: Global,
+    gates: &'a Gates,
+) -> Result<bool, AllocError> {
     let bytes = call(alloc, &[HOP_2, LAST_HOP_1])?;
     let size = bytes.len();
     let mut links = Vec::new(alloc);
     links.push(GatedLink::new(
         alloc,
-        &gates,
+        gates,
         bytes,
         size,
         Gate::Second,
@@ -82,9 +89,9 @@ fn are_on_threads<R: Threads + Wait + Sync>(rt: &R, alloc: Global) -> Result<boo
         Gate::Second,
     ))?;
     let mut acceptor = GatedAcceptor::new(links, true);
-    let first = GatedDevice::new(alloc, &gates, None, Some(Gate::First));
-    let second = GatedDevice::new(alloc, &gates, Some(Gate::First), None);
-    let mut devices = sixteen(alloc, &gates, first, second)?;
+    let first = GatedDevice::new(alloc, gates, None, Some(Gate::First));
+    let second = GatedDevice::new(alloc, gates, Some(Gate::First), None);
+    let mut devices = sixteen(alloc, gates, first, second)?;
     let (status, output) = run(
         rt,
         alloc,
@@ -94,7 +101,7 @@ fn are_on_threads<R: Threads + Wait + Sync>(rt: &R, alloc: Global) -> Result<boo
         &mut devices,
     )?;
     Ok(is_done(
-        &gates,
+        gates,
         status,
         output.bytes(),
         b"entries 2 installed 2 events ",
@@ -103,21 +110,25 @@ fn are_on_threads<R: Threads + Wait + Sync>(rt: &R, alloc: Global) -> Result<boo
 
 #[test]
 fn devices_are_called_on_threads_of_their_own(rt: HostRuntime) -> Result<(), Fail> {
-    let is_right = are_on_threads(&rt, rt.alloc())?;
+    let gates = Gates::new();
+    let is_right = are_on_threads(&rt, rt.alloc(), &gates)?;
     assert!(rt; is_right);
     Ok(())
 }
 
 // The device stays in its first call until the second operation, which comes once that call began, was answered.
-fn is_free<R: Threads + Wait + Sync>(rt: &R, alloc: Global) -> Result<bool, AllocError> {
-    let gates = Gates::new();
+fn is_free<'a, R: Threads + Wait + Sync>(
+    rt: &R,
+    alloc: Global,
+    gates: &'a Gates,
+) -> Result<bool, AllocError> {
     let mut bytes = call(alloc, &[HOP_1])?;
     let size = bytes.len();
     bytes.extend_from_slice(LAST_HOP_2)?;
     let mut links = Vec::new(alloc);
     links.push(GatedLink::new(
         alloc,
-        &gates,
+        gates,
         bytes,
         size,
         Gate::First,
@@ -125,8 +136,8 @@ fn is_free<R: Threads + Wait + Sync>(rt: &R, alloc: Global) -> Result<bool, Allo
         Gate::Second,
     ))?;
     let mut acceptor = GatedAcceptor::new(links, true);
-    let first = GatedDevice::new(alloc, &gates, Some(Gate::First), Some(Gate::Second));
-    let mut devices = sixteen(alloc, &gates, first, plain(alloc, &gates))?;
+    let first = GatedDevice::new(alloc, gates, Some(Gate::First), Some(Gate::Second));
+    let mut devices = sixteen(alloc, gates, first, plain(alloc, gates))?;
     let (status, output) = run(
         rt,
         alloc,
@@ -144,7 +155,7 @@ fn is_free<R: Threads + Wait + Sync>(rt: &R, alloc: Global) -> Result<bool, Allo
         &mut devices,
     )?;
     Ok(is_done(
-        &gates,
+        gates,
         status,
         output.bytes(),
         b"entries 2 installed 2 events ",
@@ -153,16 +164,20 @@ fn is_free<R: Threads + Wait + Sync>(rt: &R, alloc: Global) -> Result<bool, Allo
 
 #[test]
 fn a_device_in_its_call_holds_no_operation_back(rt: HostRuntime) -> Result<(), Fail> {
-    let is_right = is_free(&rt, rt.alloc())?;
+    let gates = Gates::new();
+    let is_right = is_free(&rt, rt.alloc(), &gates)?;
     assert!(rt; is_right);
     Ok(())
 }
 
 // Whether an address that can't be opened is told, and nothing is written.
-fn is_told<R: Threads + Wait + Sync>(rt: &R, alloc: Global) -> Result<bool, AllocError> {
-    let gates = Gates::new();
+fn is_told<'a, R: Threads + Wait + Sync>(
+    rt: &R,
+    alloc: Global,
+    gates: &'a Gates,
+) -> Result<bool, AllocError> {
     let mut acceptor = GatedAcceptor::new(Vec::new(alloc), false);
-    let mut devices = sixteen(alloc, &gates, plain(alloc, &gates), plain(alloc, &gates))?;
+    let mut devices = sixteen(alloc, gates, plain(alloc, gates), plain(alloc, gates))?;
     let (status, output) = run(
         rt,
         alloc,
@@ -176,7 +191,8 @@ fn is_told<R: Threads + Wait + Sync>(rt: &R, alloc: Global) -> Result<bool, Allo
 
 #[test]
 fn an_address_that_cannot_be_opened_is_told(rt: HostRuntime) -> Result<(), Fail> {
-    let is_right = is_told(&rt, rt.alloc())?;
+    let gates = Gates::new();
+    let is_right = is_told(&rt, rt.alloc(), &gates)?;
     assert!(rt; is_right);
     Ok(())
 }
