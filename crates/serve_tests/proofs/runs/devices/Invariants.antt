@@ -1,5 +1,5 @@
 use Rattle.std.proofs.Common.{◌≡◌, vec_len}
-use Rattle.serving_tests.proofs.runs.devices.Given as goal
+use Rattle.serve_tests.proofs.runs.devices.Given as goal
 
 abbrev pub invariant-loop : goal.invariant-loop
 invariant-loop l = vec_len l.devices ≡ l.counter
