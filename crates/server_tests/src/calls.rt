@@ -25,7 +25,7 @@ const REFUSED: &[(&[&[u8]], &[u8])] = &[
     (&[ELECTION], b"election in ALL_PRIMARY"),
 ];
 
-fn is_in(text: &[u8], bytes: &[u8]) -> bool {
+pub(crate) fn is_in(text: &[u8], bytes: &[u8]) -> bool {
     for start in 0..bytes.len() {
         if let Some(rest) = bytes.get(start..) {
             if rest.starts_with(text) {

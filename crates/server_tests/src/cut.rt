@@ -15,8 +15,8 @@ const ELECTION: &[u8] = b"\x1a\x02\x10\x01";
 const ADD: &[u8] =
     b"\x0a\x17\x08\x01\x12\x07DEFAULT\x18\x01\x42\x04\x08\x01\x12\x00\x5a\x02\x10\x01";
 
-// The call of a client that sends them one by one, and then ends its side.
-fn call(alloc: Global) -> Result<Vec<u8>, AllocError> {
+/// The call of a client that sends them one by one, and then ends its side.
+pub(crate) fn call(alloc: Global) -> Result<Vec<u8>, AllocError> {
     let mut out = first(alloc)?;
     put(1, 4, 1, HEAD, &mut out)?;
     put_message(alloc, 0, 1, PARAMETERS, &mut out)?;

@@ -41,3 +41,29 @@ pub(crate) fn put_message(
     framed.extend_from_slice(message)?;
     put(0, flags, stream, framed.as_slice(), out)
 }
+
+/// The DATA of all streams among these frames.
+pub(crate) fn data_of(alloc: Global, frames: &[u8]) -> Result<Vec<u8>, AllocError> {
+    let mut out = Vec::new(alloc);
+    let mut rest = frames;
+    'frames: for _ in 0..frames.len() {
+        let Some((number, payload, behind)) = cut_frame(rest) else {
+            return Ok(out);
+        };
+        if number == 0 {
+            out.extend_from_slice(payload)?;
+        }
+        rest = behind;
+    }
+    Ok(out)
+}
+
+// The type and the payload of the first frame, and what stands behind it.
+fn cut_frame(frames: &[u8]) -> Option<(u8, &[u8], &[u8])> {
+    let [a, b, c, number, _, _, _, _, _, rest @ ..] = frames else {
+        return None;
+    };
+    let size = u32::from_be_bytes([0, *a, *b, *c]) as usize;
+    let (payload, behind) = rest.split_at_checked(size)?;
+    Some((*number, payload, behind))
+}

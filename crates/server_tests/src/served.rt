@@ -13,7 +13,8 @@ use std::test::Fail;
 use table_lock::TableLock;
 use table_model::Config;
 
-const ONE: Config = Config {
+/// A table of one instance and one worker.
+pub(crate) const ONE: Config = Config {
     instances: 1,
     workers: 1,
     limit: 100,
@@ -34,7 +35,7 @@ pub(crate) enum End {
     NoMemory,
 }
 
-fn end_of(outcome: &Outcome) -> End {
+pub(crate) fn end_of(outcome: &Outcome) -> End {
     match outcome {
         Outcome::Served => End::Served,
         Outcome::ReadFault => End::ReadFault,
@@ -48,8 +49,8 @@ fn end_of(outcome: &Outcome) -> End {
     }
 }
 
-/// A table of one instance, DEFAULT, and what requests are read with.
-fn setting(alloc: Global) -> Result<Setting, Fail> {
+/// What requests are read with: one instance, DEFAULT.
+pub(crate) fn setting(alloc: Global) -> Result<Setting, Fail> {
     let mut names = Vec::new(alloc);
     names.push(String::from_str(alloc, "DEFAULT")?)?;
     Ok(Setting {
