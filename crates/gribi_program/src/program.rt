@@ -1,4 +1,5 @@
-ghost use Rattle.std.specs.Prelude.{◌≡◌, ◌⊎◌, ◌≤◌, ◌<◌, List, ℕ, Some, None, true, false, length, map, slice_get, slice_index_or, string_bytes, take, drop};
+ghost use Rattle.std.specs.Prelude.{◌≡◌, ◌⊎◌, ◌≤◌, ◌<◌, List, ℕ, Some, None};
+ghost use Rattle.std.specs.Prelude.{true, false, length, map, slice_get, slice_index_or, string_bytes, take, drop};
 ghost use Rattle.rig_io.specs.Fault.{HasCause, StaysUnless, HasRisen};
 ghost use Rattle.message_run.specs.Runs.{IsStatus, told};
 ghost use Rattle.message_run.specs.Written.{Wrote, WrotePart};
@@ -139,7 +140,8 @@ pub fn gribi_main<
     ensures others { uses_acceptor (wish_in (map string_bytes words.now)) ≡ false → drop 1 devices.new.items ≡ drop 1 devices.old.items }
     // `apply` writes the answers of the one-thread server: a function of the bytes that were taken, and of what the first device
     // said, and of the input, where the source tells it.
-    ensures applies { (names : List (List ℕ)) (first : D) → wish_in (map string_bytes words.now) ≡ Some (Apply names) → slice_get devices.old.items 0 ≡ Some first
+    ensures applies { (names : List (List ℕ)) (first : D) → wish_in (map string_bytes words.now) ≡ Some (Apply names)
+        → slice_get devices.old.items 0 ≡ Some first
         → Applies (setting_with names) result (told S.taken S.left K.placed input.old input.new output.old output.new)
         (device_told D.faults D.contents first (slice_index_or devices.new.items 0 first)) }
     ensures apply_status { (names : List (List ℕ)) → wish_in (map string_bytes words.now) ≡ Some (Apply names) → IsStatus result }

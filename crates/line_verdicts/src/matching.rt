@@ -119,7 +119,8 @@ pub fn line_matches(line: &Line, item: &Seen) -> bool
 
 /// Whether a line expects an end with this status, whatever its reason, or with both.
 pub fn line_matches_end(line: &Line, ending: SeenEnd) -> bool
-    ensures { result ≡ (spec.same_words (expected (line_words line.now)) (spec.end_words ending.code) || matches (expected (line_words line.now)) (Seen.End ending)) }
+    ensures { result ≡ (spec.same_words (expected (line_words line.now)) (spec.end_words ending.code)
+        || matches (expected (line_words line.now)) (Seen.End ending)) }
 {
     are_two(&mut wanted(line), "end", status_name(ending.code))
         || is_whole_end(&mut wanted(line), ending)
