@@ -1,0 +1,97 @@
+-- What the lines of a script ask on the streams of their calls, and which resets a client asks for.
+use Rattle.std.specs.Prelude.{◌≡◌, ℕ, ◌<◌, ◌^◌, Bool, true, false, ◌&&◌, map, length, if◌then◌else◌, List, [], ◌∷◌, ◌++◌, Option, Some, None, IfSome}
+use Rattle.schema_numbers.specs.Numbers.{Numbers}
+use Rattle.grpc_heads.specs.declared.head.Method.{Method}
+use Rattle.grpc_heads.specs.declared.head.Method.TheVariants.{Modify, Get, Flush}
+use Rattle.grpc_heads.specs.CallEnd.{CallEnd, HalfClose}
+use Rattle.grpc_heads.specs.GrpcStatus.{GrpcStatus}
+use Rattle.h2_exchange.specs.Calls.{Answer}
+use Rattle.h2_exchange.specs.StreamParts.{Item, Message, Finish}
+use Rattle.gribi_messages.specs.RequestEncoding.{request_bytes}
+use Rattle.gribi_messages.specs.GetAndFlush.{flush_bytes, get_bytes}
+use Rattle.script_lang.specs.declared.line.Line.{Line}
+use Rattle.line_requests.specs.Asks.{asked}
+use Rattle.line_requests.specs.declared.ask.LineAsk.{LineAsk}
+use Rattle.line_requests.specs.declared.ask.LineAsk.TheVariants as asks
+use Rattle.compliance_client.specs.Deeds.{CallView, Deed, Sends, Hears, Judges, ask_of, call_of, calls_in, is_refused, stream_in}
+
+-- the messages that a line asks for, and the end of the client's side
+abbrev pub items_of : Numbers → LineAsk → List (Item CallEnd)
+items_of n (asks.Send request) = Message (request_bytes n request) ∷ []
+items_of n asks.Finish = Finish HalfClose ∷ []
+items_of n (asks.Get request) = Message (get_bytes n request) ∷ Finish HalfClose ∷ []
+items_of n (asks.Flush request) = Message (flush_bytes n request) ∷ Finish HalfClose ∷ []
+items_of n other = []
+
+-- the method of the call that a line begins
+abbrev pub begun_by : LineAsk → Option Method
+begun_by asks.Modify = Some Modify
+begun_by (asks.Get request) = Some Get
+begun_by (asks.Flush request) = Some Flush
+begun_by other = None
+
+-- a message of fewer than 2^32 bytes, or none
+abbrev pub IsSmall : Numbers → LineAsk → Type 0
+IsSmall n (asks.Send request) = length (request_bytes n request) < 2 ^ 32
+IsSmall n (asks.Get request) = length (get_bytes n request) < 2 ^ 32
+IsSmall n (asks.Flush request) = length (flush_bytes n request) < 2 ^ 32
+IsSmall n other = Unit {0}
+
+-- a line can be sent, whatever election id its call sent last
+abbrev pub IsSendable : Numbers → Line → Type 0
+IsSendable n line = (last : Option ℕ) → IsSmall n (asked n last line)
+
+-- ---- on all streams
+
+abbrev pub on_stream : ℕ → Item CallEnd → ℕ × Item CallEnd
+on_stream stream what = (stream, what)
+
+-- what the lines ask, in their order
+abbrev pub taken_in : Numbers → List Deed → List (ℕ × Item CallEnd)
+taken_in n [] = []
+taken_in n (Sends line stream ∷ earlier) = taken_in n earlier ++ map (on_stream stream) (items_of n (ask_of n (calls_in n earlier) line))
+taken_in n (other ∷ earlier) = taken_in n earlier
+
+abbrev pub beginning : ℕ → Option Method → List (ℕ × Method)
+beginning stream None = []
+beginning stream (Some method) = (stream, method) ∷ []
+
+-- the calls that lines began, in their order
+abbrev pub begun_in : Numbers → List Deed → List (ℕ × Method)
+begun_in n [] = []
+begun_in n (Sends line stream ∷ earlier) = begun_in n earlier ++ beginning stream (begun_by (ask_of n (calls_in n earlier) line))
+begun_in n (other ∷ earlier) = begun_in n earlier
+
+abbrev pub reset_by : LineAsk → ℕ → List ℕ
+reset_by asks.Reset stream = stream ∷ []
+reset_by other stream = []
+
+-- the streams that were reset: of the calls that lines drop, and of those whose messages are refused
+abbrev pub resets_in : Numbers → List Deed → List ℕ
+resets_in n [] = []
+resets_in n (Sends line stream ∷ earlier) = resets_in n earlier ++ reset_by (ask_of n (calls_in n earlier) line) stream
+resets_in n (Hears answer is_reset ∷ earlier) = resets_in n earlier ++ (if is_reset then stream_in answer ∷ [] else [])
+resets_in n (Judges line ∷ earlier) = resets_in n earlier
+
+-- the answers that were heard, in their order
+abbrev pub heard_in : List Deed → List (Answer GrpcStatus)
+heard_in [] = []
+heard_in (Hears answer is_reset ∷ earlier) = heard_in earlier ++ answer ∷ []
+heard_in (other ∷ earlier) = heard_in earlier
+
+-- ---- which deeds there are
+
+-- a line that begins no call goes to the stream of the one that it names
+abbrev pub IsOwn : LineAsk → ℕ → Option CallView → Type 0
+IsOwn (asks.Send request) stream c = IfSome c (λ x. x.stream ≡ stream)
+IsOwn asks.Finish stream c = IfSome c (λ x. x.stream ≡ stream)
+IsOwn asks.Reset stream c = IfSome c (λ x. x.stream ≡ stream)
+IsOwn other stream c = Unit {0}
+
+-- Lines go to their own calls, and a call is reset for an answer only where that is refused.
+abbrev pub AreOwn : Numbers → List Deed → Type 0
+AreOwn n [] = Unit {0}
+AreOwn n (Sends line stream ∷ earlier) =
+    IsOwn (ask_of n (calls_in n earlier) line) stream (call_of line (calls_in n earlier)) × AreOwn n earlier
+AreOwn n (Hears answer is_reset ∷ earlier) = (is_reset ≡ true → is_refused n answer (calls_in n earlier) ≡ true) × AreOwn n earlier
+AreOwn n (Judges line ∷ earlier) = AreOwn n earlier

@@ -1,0 +1,4 @@
+pub mod Deeds
+pub mod Asks
+pub mod Standing
+pub mod Turns
