@@ -5,7 +5,7 @@ use Rattle.std.specs.Str.{bytes_eq}
 use Rattle.schema_numbers.specs.Numbers.{Numbers}
 use Rattle.proto_schema.specs.declared.legal.MessageFault.{MessageFault}
 use Rattle.proto_schema.specs.Legal.{first_fault as fault_of}
-use Rattle.proto_schema.specs.declared.kinds.MessageKind.TheVariants as message
+use Rattle.proto_schema.specs.declared.schema.MessageKind.TheVariants as message
 use Rattle.grpc_heads.specs.declared.head.Method.{Method}
 use Rattle.grpc_heads.specs.declared.head.Method.TheVariants.{Modify, Get, Flush}
 use Rattle.grpc_heads.specs.GrpcStatus.{GrpcStatus}

@@ -1,4 +1,6 @@
 ghost use Rattle.std.specs.Prelude.{◌≡◌, [], List};
+ghost use Rattle.std.specs.List.{position};
+ghost use Rattle.compliance_client.specs.Deeds.{call_name, is_named, is_on};
 ghost use Rattle.schema_numbers.specs.Numbers.{Numbers};
 ghost use Rattle.grpc_stream.specs.CallTrace.{fresh};
 ghost use Rattle.h2_exchange.specs.declared.limits.H2Limits.{H2Limits};
@@ -7,10 +9,11 @@ ghost use Rattle.h2_frames.specs.declared.frame.Frame.{Frame};
 ghost use Rattle.http_connection.specs.ConnectionTrace.{begun};
 ghost use Rattle.compliance_client.specs.Standing.{StandsAs};
 
-use crate::kept::KeptCall;
+use crate::kept::{KeptCall, call_name as name_of, place_named, place_on as find_stream};
 use crate::over::ClientOver;
 use grpc_stream::CallConnection;
 use line_verdicts::Tally;
+use script_lang::Line;
 use std::alloc::Global;
 
 /// A client's end of a connection, over its calls: what the lines of a script sent, and what the server answered.
@@ -49,5 +52,19 @@ impl<K: CallConnection> ClientConn<K> {
         ensures { result ≡ self.now.tally }
     {
         self.tally
+    }
+
+    // Where the call that a line is about stands.
+    pub(crate) fn place_of(&self, line: &Line) -> Option<usize>
+        ensures { result ≡ position (is_named (call_name line.now)) self.now.kept.items }
+    {
+        place_named(self.kept.as_slice(), name_of(line).as_bytes())
+    }
+
+    // Where the call on a stream stands.
+    pub(crate) fn place_on(&self, stream: u32) -> Option<usize>
+        ensures { result ≡ position (is_on stream) self.now.kept.items }
+    {
+        find_stream(self.kept.as_slice(), stream)
     }
 }

@@ -1,6 +1,11 @@
 //! Verdicts of expect lines.
+ghost use Rattle.std.specs.Prelude.{◌≡◌};
+ghost use Rattle.std.specs.List.{find};
+ghost use Rattle.std.specs.Option.{option_and_then};
+ghost use Rattle.line_verdicts.specs.Verdicts.{judged};
+ghost use Rattle.compliance_client.specs.Deeds.{call_name, call_of, change_first, is_named, judges};
+
 use crate::conn::ClientConn;
-use crate::kept::{call_name, place_named};
 use grpc_stream::CallConnection;
 use line_verdicts::Judged;
 use script_lang::Line;
@@ -8,8 +13,12 @@ use script_lang::Line;
 impl<K: CallConnection> ClientConn<K> {
     /// The verdict of an expect line over what its call has given so far, less the items that earlier lines used, or `None` where it still
     /// waits; also where no line began its call. The item that a Pass rests on is used up, and nothing else changes.
-    pub fn judge_line(&mut self, line: &Line) -> Option<Judged> {
-        match place_named(self.kept.as_slice(), call_name(line).as_bytes()) {
+    pub fn judge_line(&mut self, line: &Line) -> Option<Judged>
+        ensures verdict { result ≡ option_and_then (λ c. judged line.now c.heard) (call_of line.now self.old.kept.items) }
+        ensures left { self.new.kept.items ≡ change_first (is_named (call_name line.now)) (judges line.now) self.old.kept.items }
+        ensures same { self.new ≡ record self.old { kept = self.new.kept } }
+    {
+        match self.place_of(line) {
             None => None,
             Some(at) => self.kept[at].judge(line),
         }

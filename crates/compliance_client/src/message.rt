@@ -1,5 +1,6 @@
 //! What a message of each kind of call gives.
-ghost use Rattle.std.specs.Prelude.{◌≡◌, IfOk, OnOk, is_some};
+ghost use Rattle.std.specs.Prelude.{◌≡◌, ◌≢◌, IfOk, OnOk, is_some, true};
+ghost use Rattle.line_verdicts.specs.Items.{with_end};
 ghost use Rattle.grpc_heads.specs.declared.head.Method.TheVariants as method;
 ghost use Rattle.compliance_client.specs.Deeds as spec;
 

@@ -1,6 +1,6 @@
 //! Lines that are sent.
 use crate::conn::ClientConn;
-use crate::kept::{KeptCall, call_name, keep, place_named};
+use crate::kept::{KeptCall, keep};
 use crate::message::CANCELLED;
 use crate::over::ClientOver;
 use gribi_messages::{
@@ -32,7 +32,7 @@ impl<K: CallConnection> ClientConn<K> {
         if is_starved(self.over) {
             return Err(SendFault::NoMemory);
         }
-        let place = place_named(self.kept.as_slice(), call_name(line).as_bytes());
+        let place = self.place_of(line);
         let elected = elected_at(self.kept.as_slice(), place);
         let Ok(ask) = read_ask(self.alloc, n, elected, line) else {
             return Err(SendFault::NoMemory);
