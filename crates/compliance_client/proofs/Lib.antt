@@ -1,1 +1,5 @@
+mod NextAnswer
 mod Places
+mod Putting
+mod Results
+mod Working

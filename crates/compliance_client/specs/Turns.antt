@@ -67,9 +67,23 @@ over_at turn.Progress = None
 over_at turn.Idle = None
 over_at (turn.Over why) = Some why
 
+-- the link failed
+abbrev pub IsFault : Option ClientOver → Type 0
+IsFault None = ⊥
+IsFault (Some why) = is_fault why ≡ true
+
+abbrev pub IsTurnFault : ClientTurn → Type 0
+IsTurnFault result = IsFault (over_at result)
+
 -- how many bytes these pieces have
 abbrev pub moved_in : List Piece → ℕ
 moved_in pieces = length (received_bytes pieces) + length (sent_bytes pieces)
+
+-- a turn that isn't the last got on exactly where a byte was got or placed
+abbrev pub Moves : ClientTurn → List Piece → Type 0
+Moves turn.Progress more = 0 < moved_in more
+Moves turn.Idle more = moved_in more ≡ 0
+Moves (turn.Over why) more = Unit {0}
 
 -- ---- what was done
 

@@ -105,8 +105,7 @@ impl<K: CallConnection> ClientConn<K> {
         ensures ahead { K.ahead self.new.calls ≡ K.ahead self.old.calls }
     {
         self.hear_end(stream, UNKNOWN);
-        let place = self.place_on(stream);
-        self.reset_if(place.is_some(), stream)
+        self.reset(stream)
     }
 
     // Takes the next event of the calls.
@@ -123,18 +122,18 @@ impl<K: CallConnection> ClientConn<K> {
             CallEvent::Refused(why, place) => Err(ClientOver::Protocol(why, place)),
             CallEvent::Calm(cause) => Err(ClientOver::Calm(cause)),
             CallEvent::NoMemory => Err(ClientOver::NoMemory),
-            CallEvent::Answered(stream, message) => {
-                let _ = self.hear_message(n, stream, message)?;
-                Ok(NextHeard::Event)
-            }
+            CallEvent::Answered(stream, message) => match self.hear_message(n, stream, message) {
+                Err(over) => Err(over),
+                Ok(_) => Ok(NextHeard::Event),
+            },
             CallEvent::Closed(stream, status) => {
                 self.hear_end(stream, end_of(&status));
                 Ok(NextHeard::Event)
             }
-            CallEvent::Dropped(stream) => {
-                let _ = self.hear_refusal(stream)?;
-                Ok(NextHeard::Event)
-            }
+            CallEvent::Dropped(stream) => match self.hear_refusal(stream) {
+                Err(over) => Err(over),
+                Ok(_) => Ok(NextHeard::Event),
+            },
             CallEvent::Begun(_, _) => Ok(NextHeard::Event),
             CallEvent::Request(_, _) => Ok(NextHeard::Event),
             CallEvent::Finished(_) => Ok(NextHeard::Event),
