@@ -1,3 +1,4 @@
+mod Moving
 mod NextAnswer
 mod Places
 mod Putting

@@ -217,7 +217,7 @@ module _ {K : Type 0} (uses : K → CallTrace → Type 0) (output : K → List �
   stop_quiet : (stop : Stop) (u : CallTrace) → uses mid u → RepeatsRefusal past.trace (Stopped stop) u ⊎ Stops past.trace stop u →
       Quiet past.trace u × (StopsAt stop u.connection_trace ⊎ (u.connection_trace.refusal ≡ Some (Stopped stop)))
   stop_quiet stop u used (inl (refused, same)) = (same_quiet past.trace u same, inr (ap (λ (x : CallTrace). x.connection_trace.refusal) same ∙ refused))
-  stop_quiet stop u used (inr stops) = (stops_quiet past.trace u (output mid) (sound mid u used) h.role stop stops, inl (stops.before, stops.stops))
+  stop_quiet stop u used (inr stops) = (stops_quiet past.trace u (output mid) (sound mid u used) h.role stop stops, inl (stops.before, u.connection_trace, stops.stops, refl))
 
   pub hears_stop : (stop : Stop) → Says (λ t u. RepeatsRefusal t (Stopped stop) u ⊎ Stops t stop u) →
       (u : CallTrace) × Works uses n mid kept tally (record { trace = u; deeds = past.deeds; pieces = past.pieces })

@@ -1,5 +1,5 @@
 -- What a part of a turn comes to, and why a turn is the last.
-use Rattle.std.specs.Prelude.{◌≡◌, ◌⊎◌, ℕ, ◌+◌, Bool, true, false, length, map, List, [], ◌∷◌, ◌++◌, Option, Some, None, Result, Ok, Err}
+use Rattle.std.specs.Prelude.{◌≡◌, ◌⊎◌, ℕ, ◌<◌, ◌+◌, Bool, true, false, length, map, List, [], ◌∷◌, ◌++◌, Option, Some, None, Result, Ok, Err}
 use Rattle.std.specs.List.{flat_map}
 use Rattle.std.specs.Option.{option_map}
 use Rattle.rig_io.specs.Link as link
@@ -49,9 +49,9 @@ is_fault over.ReadFault = true
 is_fault over.WriteFault = true
 is_fault other = false
 
--- the connection stopped so, with a cause in what was received
+-- the connection stopped so, with a cause in what was received; what was dropped of its output since then changes nothing
 abbrev pub StopsAt : Stop → ConnectionTrace → Type 0
-StopsAt stop d = (c : ConnectionTrace) × Stops c stop d
+StopsAt stop e = (c d : ConnectionTrace) × Stops c stop d × (e ≡ record d { dropped = e.dropped })
 
 abbrev pub IsCauseOf : Option ClientOver → CallTrace → Type 0
 IsCauseOf (Some (over.Protocol why place)) t = StopsAt (Error why place) t.connection_trace ⊎ (t.connection_trace.refusal ≡ Some (Stopped (Error why place)))

@@ -1,5 +1,5 @@
 //! What the server did is heard, event by event.
-ghost use Rattle.std.specs.Prelude.{◌≡◌, ◌<◌, [], false, Ok, Some, IfOk, IfErr, OnOk, OnErr, true};
+ghost use Rattle.std.specs.Prelude.{◌≡◌, ◌<◌, [], false, Err, Ok, Some, IfOk, IfErr, OnOk, OnErr, true};
 ghost use Rattle.std.specs.List.{find};
 ghost use Rattle.h2_exchange.specs.Calls as answer;
 ghost use Rattle.grpc_stream.specs.CallTrace.{Keeps};
@@ -116,6 +116,7 @@ impl<K: CallConnection> ClientConn<K> {
         ensures same { self.new ≡ record self.old { calls = self.new.calls; kept = self.new.kept; tally = self.new.tally } }
         ensures ahead { result ≡ Ok NextHeard.Event → K.ahead self.new.calls < K.ahead self.old.calls }
         ensures quiet { IfErr result (λ why. is_fault why ≡ false) }
+        ensures unended { result ≡ Err ClientOver.Ended → ⊥ }
     {
         match self.calls.next(n) {
             CallEvent::NeedMore => Ok(NextHeard::All),
@@ -147,6 +148,7 @@ impl<K: CallConnection> ClientConn<K> {
             × IfErr result (λ why. Turned K.stands n.now (Some why) self.new.calls self.new.kept.items self.new.tally past []) }
         ensures same { self.new ≡ record self.old { calls = self.new.calls; kept = self.new.kept; tally = self.new.tally } }
         ensures quiet { IfErr result (λ why. is_fault why ≡ false) }
+        ensures unended { result ≡ Err ClientOver.Ended → ⊥ }
     {
         'events: loop {
             match self.hear(n) {

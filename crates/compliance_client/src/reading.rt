@@ -5,7 +5,7 @@ ghost use Rattle.rig_io.specs.Fault.{HasCause, HasRisen, StaysUnless};
 ghost use Rattle.rig_io.specs.Link.{received};
 ghost use Rattle.schema_numbers.specs.Numbers.{Numbers};
 ghost use Rattle.compliance_client.specs.Standing.{Past, Works};
-ghost use Rattle.compliance_client.specs.Turns.{Turned, got, over_of};
+ghost use Rattle.compliance_client.specs.Turns.{IsFault, Turned, got, over_of};
 
 use crate::conn::{ClientConn, PIECE};
 use crate::over::ClientOver;
@@ -20,8 +20,7 @@ impl<K: CallConnection> ClientConn<K> {
             (bytes : List ℕ) × (length bytes ≤ 16384) × (L.pieces link.new ≡ option_map (λ told. told ++ got bytes) (L.pieces link.old))
             × Turned K.stands n (over_of result) self.new.calls self.new.kept.items self.new.tally past (got bytes)
             × IfOk result (λ moved. moved ≡ true ↔ 0 < length bytes) }
-        ensures fault { HasCause (L.faults link.old) (L.faults link.new) (result ≡ Err ClientOver.ReadFault)
-            × StaysUnless (L.faults link.old) (L.faults link.new) (result ≡ Err ClientOver.ReadFault) }
+        ensures fault { HasCause (L.faults link.old) (L.faults link.new) (IsFault (over_of result)) }
         ensures ended { HasCause (L.ends link.old) (L.ends link.new) (result ≡ Err ClientOver.Ended)
             × StaysUnless (L.ends link.old) (L.ends link.new) (result ≡ Err ClientOver.Ended) }
         ensures idle { IfOk result (λ moved. moved ≡ false → HasRisen (L.read_idles link.old) (L.read_idles link.new)) }

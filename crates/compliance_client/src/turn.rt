@@ -80,6 +80,7 @@ impl<K: CallConnection> ClientConn<K> {
         ensures ended { HasCause (L.ends link.old) (L.ends link.new) (result ≡ Err ClientOver.Ended)
             × StaysUnless (L.ends link.old) (L.ends link.new) (result ≡ Err ClientOver.Ended) }
         ensures idle { IfOk result (λ moved. moved ≡ false → HasRisen (L.read_idles link.old) (L.read_idles link.new)) }
+        ensures writes { L.write_idles link.new ≡ L.write_idles link.old }
         ensures same { self.new ≡ record self.old { calls = self.new.calls; kept = self.new.kept; tally = self.new.tally } }
     {
         match self.read(link) {
