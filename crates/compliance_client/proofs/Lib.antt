@@ -3,4 +3,5 @@ mod NextAnswer
 mod Places
 mod Putting
 mod Results
+mod SentLines
 mod Working

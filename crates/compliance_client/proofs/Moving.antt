@@ -6,6 +6,7 @@ use Rattle.std.proofs.lemmas.List.Concat.{flat_map-append}
 use Rattle.rig_io.specs.Link as link
 use Rattle.rig_io.specs.Link.{Piece, sent}
 use Rattle.schema_numbers.specs.Numbers.{Numbers}
+use Rattle.h2_exchange.specs.declared.role.Role.TheVariants.{Client}
 use Rattle.h2_exchange.specs.Order.{received_bytes, sent_bytes}
 use Rattle.http_connection.specs.ConnectionTrace.{ConnectionTrace, dropped_more, fed_more}
 use Rattle.grpc_stream.specs.CallTrace.{CallTrace, changed}
@@ -138,6 +139,16 @@ module _ {K : Type 0} (uses : K → CallTrace → Type 0) (n : Numbers) where
   stands_used (Some (over.Protocol why place)) calls kept tally past h = h.used
   stands_used (Some (over.Calm cause)) calls kept tally past h = h.used
   stands_used (Some over.NoMemory) calls kept tally past h = h.used
+
+  pub stands_client : (why : Option ClientOver) (calls : K) (kept : List CallView) (tally : Tally) (past : Past) → StandsAs uses n why calls kept tally past →
+      (t : CallTrace) × uses calls t × (t.connection_trace.role ≡ Client)
+  stands_client None calls kept tally past h = (past.trace, h.used, h.role)
+  stands_client (Some over.ReadFault) calls kept tally past h = (past.trace, h.used, h.role)
+  stands_client (Some over.WriteFault) calls kept tally past h = (past.trace, h.used, h.role)
+  stands_client (Some over.Ended) calls kept tally past h = (past.trace, h.used, h.role)
+  stands_client (Some (over.Protocol why place)) calls kept tally past h = (past.trace, h.used, h.role)
+  stands_client (Some (over.Calm cause)) calls kept tally past h = (past.trace, h.used, h.role)
+  stands_client (Some over.NoMemory) calls kept tally past h = (past.trace, h.used, h.role)
 
   stands_put : (why : Option ClientOver) (calls later : K) (kept : List CallView) (tally : Tally) (past : Past) (more : List Piece) →
       StandsAs uses n why calls kept tally past → received_bytes more ≡ [] → uses later (changed (dropped_more (sent_bytes more)) past.trace) →

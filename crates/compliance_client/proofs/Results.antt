@@ -1,6 +1,6 @@
 -- What is said of an answer.
 use Rattle.std.proofs.Common.{◌≡◌, ℕ, Ok, Err, Result, inl, inr}
-use Rattle.std.specs.Prelude.{IfOk, OnOk}
+use Rattle.std.specs.Prelude.{IfOk, OnErr, OnOk}
 use Rattle.rig_io.specs.Fault.{HasCause, StaysUnless}
 
 module _ {A E : Type 0} where
@@ -11,6 +11,10 @@ module _ {A E : Type 0} where
   pub ok_map : {P Q : A → Type 0} (r : Result A E) → ((x : A) → P x → Q x) → IfOk r P → IfOk r Q
   ok_map (Ok x) f p = f x p
   ok_map (Err e) f p = tt
+
+  pub err_pair : (P Q : Type 0) (r : Result A E) → P → OnErr r Q → OnErr r (P × Q)
+  err_pair P Q (Ok x) p q = tt
+  err_pair P Q (Err e) p q = (p, q)
 
 pub cause_never : (before now : ℕ) (was is : Type 0) → HasCause before now was → (is → ⊥) → HasCause before now is
 cause_never before now was is h never = record { later = h.later; rose = λ x. absurd (never x) }

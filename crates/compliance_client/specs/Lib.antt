@@ -2,3 +2,4 @@ pub mod Deeds
 pub mod Asks
 pub mod Standing
 pub mod Turns
+pub mod Sends

@@ -67,6 +67,10 @@ over_at turn.Progress = None
 over_at turn.Idle = None
 over_at (turn.Over why) = Some why
 
+abbrev pub is_starved : Option ClientOver → Bool
+is_starved (Some over.NoMemory) = true
+is_starved other = false
+
 -- the link failed
 abbrev pub IsFault : Option ClientOver → Type 0
 IsFault None = ⊥
