@@ -1,7 +1,9 @@
+mod Judged
 mod Moving
 mod NextAnswer
 mod Places
 mod Putting
 mod Results
 mod SentLines
+mod Suited
 mod Working

@@ -1,16 +1,18 @@
 -- What the lines of a script ask on the streams of their calls, and which resets a client asks for.
-use Rattle.std.specs.Prelude.{◌≡◌, ℕ, ◌<◌, ◌^◌, Bool, true, false, ◌&&◌, map, length, if◌then◌else◌, List, [], ◌∷◌, ◌++◌, Option, Some, None, IfSome}
+use Rattle.std.specs.Prelude.{◌≡◌, ℕ, ◌==◌, Bool, true, map, filter, if◌then◌else◌, List, [], ◌∷◌, ◌++◌, Option, Some, None, IfSome}
 use Rattle.schema_numbers.specs.Numbers.{Numbers}
 use Rattle.grpc_heads.specs.declared.head.Method.{Method}
 use Rattle.grpc_heads.specs.declared.head.Method.TheVariants.{Modify, Get, Flush}
 use Rattle.grpc_heads.specs.CallEnd.{CallEnd, HalfClose}
 use Rattle.grpc_heads.specs.GrpcStatus.{GrpcStatus}
+use Rattle.std.specs.List.{find}
 use Rattle.h2_exchange.specs.Calls.{Answer}
+use Rattle.h2_exchange.specs.Requests as request
 use Rattle.h2_exchange.specs.StreamParts.{Item, Message, Finish}
+use Rattle.grpc_stream.specs.CallTrace.{half, head_by}
 use Rattle.gribi_messages.specs.RequestEncoding.{request_bytes}
 use Rattle.gribi_messages.specs.GetAndFlush.{flush_bytes, get_bytes}
 use Rattle.script_lang.specs.declared.line.Line.{Line}
-use Rattle.line_requests.specs.Asks.{asked}
 use Rattle.line_requests.specs.declared.ask.LineAsk.{LineAsk}
 use Rattle.line_requests.specs.declared.ask.LineAsk.TheVariants as asks
 use Rattle.compliance_client.specs.Deeds.{CallView, Deed, Sends, Hears, Judges, ask_of, call_of, calls_in, is_refused, stream_in}
@@ -29,17 +31,6 @@ begun_by asks.Modify = Some Modify
 begun_by (asks.Get request) = Some Get
 begun_by (asks.Flush request) = Some Flush
 begun_by other = None
-
--- a message of fewer than 2^32 bytes, or none
-abbrev pub IsSmall : Numbers → LineAsk → Type 0
-IsSmall n (asks.Send request) = length (request_bytes n request) < 2 ^ 32
-IsSmall n (asks.Get request) = length (get_bytes n request) < 2 ^ 32
-IsSmall n (asks.Flush request) = length (flush_bytes n request) < 2 ^ 32
-IsSmall n other = Unit {0}
-
--- a line can be sent, whatever election id its call sent last
-abbrev pub IsSendable : Numbers → Line → Type 0
-IsSendable n line = (last : Option ℕ) → IsSmall n (asked n last line)
 
 -- ---- on all streams
 
@@ -78,6 +69,13 @@ abbrev pub heard_in : List Deed → List (Answer GrpcStatus)
 heard_in [] = []
 heard_in (Hears answer is_reset ∷ earlier) = heard_in earlier ++ answer ∷ []
 heard_in (other ∷ earlier) = heard_in earlier
+
+-- what a client is to ask on a stream: the head of the call that a line began there, then what the lines of that call ask
+abbrev pub asked_in : Numbers → List Deed → ℕ → request.Asked
+asked_in n deeds id = record {
+  head = head_by (find (λ call. call.0 == id) (begun_in n deeds));
+  items = map half (map (λ x. x.1) (filter (λ x. x.0 == id) (taken_in n deeds)));
+}
 
 -- ---- which deeds there are
 

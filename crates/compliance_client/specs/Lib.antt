@@ -3,3 +3,4 @@ pub mod Asks
 pub mod Standing
 pub mod Turns
 pub mod Sends
+pub mod Laws

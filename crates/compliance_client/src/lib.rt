@@ -14,6 +14,7 @@ mod conn;
 mod hearing;
 mod judging;
 mod kept;
+pub mod laws;
 mod message;
 mod over;
 mod reading;
