@@ -1,5 +1,5 @@
 -- What the next event of a client's calls is: an answer, which is all that was told, or nothing.
-use Rattle.std.proofs.Common.{◌⊎◌, ◌≡◌, inl, inr, ℕ, Bool, true, false, List, [], ◌∷◌, ◌++◌, map, Option, Some, None, refl, sym, ap, subst, ◌∙◌, append_assoc, append-nil}
+use Rattle.std.proofs.Common.{◌⊎◌, ◌≡◌, inl, inr, ℕ, List, [], ◌∷◌, ◌++◌, map, Some, refl, sym, ap, subst, ◌∙◌, append_assoc, append-nil}
 use Rattle.grpc_heads.specs.CallEnd.{status_by, unknown}
 use Rattle.grpc_heads.specs.Trailers.{status_in_trailers}
 use Rattle.grpc_heads.specs.GrpcStatus.{GrpcStatus}

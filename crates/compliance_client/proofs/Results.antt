@@ -1,5 +1,5 @@
 -- What is said of an answer.
-use Rattle.std.proofs.Common.{◌≡◌, ℕ, Ok, Err, Result, inl, inr}
+use Rattle.std.proofs.Common.{ℕ, Ok, Err, Result, inl, inr}
 use Rattle.std.specs.Prelude.{IfOk, OnErr, OnOk}
 use Rattle.rig_io.specs.Fault.{HasCause, StaysUnless}
 

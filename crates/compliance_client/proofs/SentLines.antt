@@ -1,7 +1,6 @@
 -- How a client goes on by a line that is sent.
-use Rattle.std.proofs.Common.{◌⊎◌, ◌≡◌, inl, inr, ℕ, Bool, true, false, List, [], ◌∷◌, ◌++◌, map, Option, Some, None, Result, Ok, Err, refl, sym, ap, subst, ◌∙◌, append_assoc, append-nil}
-use Rattle.std.specs.Prelude.{find, IfSome, OnErr, OnOk}
-use Rattle.std.specs.List.{position}
+use Rattle.std.proofs.Common.{◌⊎◌, ◌≡◌, inl, inr, ℕ, Bool, true, false, List, [], ◌∷◌, ◌++◌, map, Option, Some, Result, Ok, Err, refl, sym, ap, subst, ◌∙◌, append_assoc, append-nil}
+use Rattle.std.specs.Prelude.{IfSome, OnErr, OnOk}
 use Rattle.schema_numbers.specs.Numbers.{Numbers}
 use Rattle.grpc_heads.specs.declared.head.Method.{Method}
 use Rattle.grpc_heads.specs.declared.head.Method.TheVariants as method
@@ -18,7 +17,7 @@ use Rattle.script_lang.specs.declared.line.Line.{Line}
 use Rattle.line_requests.specs.declared.ask.LineAsk.{LineAsk}
 use Rattle.line_requests.specs.declared.ask.LineAsk.TheVariants as asks
 use Rattle.line_verdicts.specs.declared.tally.Tally.{Tally}
-use Rattle.compliance_client.specs.Deeds.{CallView, Deed, Sends, ask_of, call_name, call_of, calls_behind, calls_in, cancelled, change_first, elects, ends, is_named, new_call}
+use Rattle.compliance_client.specs.Deeds.{CallView, ask_of, call_name, call_of, calls_behind, calls_in, cancelled, change_first, elects, ends, is_named, new_call}
 use Rattle.compliance_client.specs.Asks.{IsOwn, beginning, begun_by, begun_in, items_of, on_stream, reset_by, resets_in, taken_in}
 use Rattle.compliance_client.specs.Sends.{Begins, BeginsPart, BeginsWhole, SendsLine, begun_with, took_all, with_line}
 use Rattle.compliance_client.specs.Standing.{Past, Starves, Works}

@@ -1,9 +1,7 @@
 -- How a client goes on: what it hears, reads and writes.
-use Rattle.std.proofs.Common.{◌⊎◌, ◌≡◌, inl, inr, ℕ, Bool, true, false, List, [], ◌∷◌, ◌++◌, map, Option, Some, None, refl, sym, ap, subst, ◌∙◌, append_assoc, append-nil}
+use Rattle.std.proofs.Common.{◌⊎◌, ◌≡◌, inl, inr, ℕ, Bool, true, false, List, [], ◌∷◌, ◌++◌, Option, Some, None, refl, sym, ap, subst, ◌∙◌, append_assoc, append-nil}
 use Rattle.std.proofs.lemmas.List.{map-append}
-use Rattle.std.specs.Prelude.{if◌then◌else◌, find}
-use Rattle.std.specs.List.{flat_map}
-use Rattle.rig_io.specs.Link as link
+use Rattle.std.specs.Prelude.{if◌then◌else◌}
 use Rattle.rig_io.specs.Link.{Piece}
 use Rattle.schema_numbers.specs.Numbers.{Numbers}
 use Rattle.grpc_heads.specs.declared.head.Method.{Method}
@@ -11,8 +9,7 @@ use Rattle.grpc_heads.specs.GrpcStatus.{GrpcStatus}
 use Rattle.h2_exchange.specs.Calls.{Answer}
 use Rattle.h2_exchange.specs.Calls as call
 use Rattle.h2_exchange.specs.Stops.{Stop}
-use Rattle.http_connection.specs.ConnectionTrace.{ConnectionTrace, NoMemory, Refusal, Stopped}
-use Rattle.h2_exchange.specs.Order.{received_bytes, sent_bytes}
+use Rattle.http_connection.specs.ConnectionTrace.{ConnectionTrace, NoMemory, Stopped}
 use Rattle.grpc_stream.specs.CallTrace.{CallTrace, Answered, IsSoundCallTrace, Keeps, PeerEvent}
 use Rattle.grpc_stream.specs.NextEvent.{GivesCallEvent, IsShownAs, NeedsMore, RepeatsRefusal, RunsOutOfMemory, Stops}
 use Rattle.grpc_stream.specs.declared.event.CallEvent.{CallEvent}
@@ -20,10 +17,10 @@ use Rattle.grpc_stream.specs.declared.event.CallEvent.TheVariants as says
 use Rattle.line_verdicts.specs.declared.tally.Tally.{Tally}
 use Rattle.compliance_client.specs.declared.over.ClientOver.{ClientOver}
 use Rattle.compliance_client.specs.declared.over.ClientOver.TheVariants as over
-use Rattle.compliance_client.specs.Deeds.{CallView, Deed, Hears, calls_hearing, calls_in, is_refused, stream_in, tally_hearing, tally_in}
-use Rattle.compliance_client.specs.Asks.{AreOwn, begun_in, heard_in, resets_in, taken_in}
+use Rattle.compliance_client.specs.Deeds.{CallView, Deed, Hears, calls_hearing, calls_in, is_refused, stream_in, tally_hearing}
+use Rattle.compliance_client.specs.Asks.{heard_in}
 use Rattle.compliance_client.specs.Standing.{Past, StandsAs, Starves, Works}
-use Rattle.compliance_client.specs.Turns.{AreHearings, HearsAll, IsCauseOf, IsSettled, MayReset, Resets, StopsAt, Turned}
+use Rattle.compliance_client.specs.Turns.{AreHearings, HearsAll, IsCauseOf, MayReset, Resets, StopsAt, Turned}
 use Rattle.compliance_client.proofs.NextAnswer.{HearsNext, Quiet, Went, needs_quiet, next_heard, starves_quiet, stops_quiet}
 
 -- a trace goes on from another by an answer that was heard, with the reset of its call or not

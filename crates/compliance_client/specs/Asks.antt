@@ -1,5 +1,5 @@
 -- What the lines of a script ask on the streams of their calls, and which resets a client asks for.
-use Rattle.std.specs.Prelude.{◌≡◌, ℕ, ◌==◌, Bool, true, map, filter, if◌then◌else◌, List, [], ◌∷◌, ◌++◌, Option, Some, None, IfSome}
+use Rattle.std.specs.Prelude.{◌≡◌, ℕ, ◌==◌, true, map, filter, if◌then◌else◌, List, [], ◌∷◌, ◌++◌, Option, Some, None, IfSome}
 use Rattle.schema_numbers.specs.Numbers.{Numbers}
 use Rattle.grpc_heads.specs.declared.head.Method.{Method}
 use Rattle.grpc_heads.specs.declared.head.Method.TheVariants.{Modify, Get, Flush}
@@ -12,7 +12,6 @@ use Rattle.h2_exchange.specs.StreamParts.{Item, Message, Finish}
 use Rattle.grpc_stream.specs.CallTrace.{half, head_by}
 use Rattle.gribi_messages.specs.RequestEncoding.{request_bytes}
 use Rattle.gribi_messages.specs.GetAndFlush.{flush_bytes, get_bytes}
-use Rattle.script_lang.specs.declared.line.Line.{Line}
 use Rattle.line_requests.specs.declared.ask.LineAsk.{LineAsk}
 use Rattle.line_requests.specs.declared.ask.LineAsk.TheVariants as asks
 use Rattle.compliance_client.specs.Deeds.{CallView, Deed, Sends, Hears, Judges, ask_of, call_of, calls_in, is_refused, stream_in}

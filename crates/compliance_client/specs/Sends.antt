@@ -2,13 +2,13 @@
 use Rattle.std.specs.Prelude.{◌≡◌, ◌⊎◌, ℕ, ◌<◌, ◌&&◌, Bool, true, false, List, [], ◌∷◌, ◌++◌, Option, Some, None, Result, Ok, Err}
 use Rattle.schema_numbers.specs.Numbers.{Numbers}
 use Rattle.grpc_heads.specs.declared.head.Method.{Method}
-use Rattle.grpc_heads.specs.CallEnd.{CallEnd, HalfClose}
+use Rattle.grpc_heads.specs.CallEnd.{HalfClose}
 use Rattle.grpc_heads.specs.Written.{request_fields}
 use Rattle.h2_frames.specs.declared.frame.Frame.{Frame}
 use Rattle.h2_exchange.specs.declared.fault.SendFault.{SendFault}
 use Rattle.h2_exchange.specs.declared.fault.SendFault.TheVariants.{NotOpen, IdsSpent, NoMemory}
 use Rattle.h2_exchange.specs.Exchange.{sent}
-use Rattle.h2_exchange.specs.StreamParts.{Item, Message, Finish}
+use Rattle.h2_exchange.specs.StreamParts.{Message, Finish}
 use Rattle.h2_exchange.specs.Streams.{highest, is_live}
 use Rattle.http_connection.specs.ConnectionTrace.{ConnectionTrace, is_alive, wrote}
 use Rattle.http_connection.specs.Sends.{CarryBlock, SendsWhere}

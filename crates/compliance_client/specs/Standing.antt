@@ -1,5 +1,5 @@
 -- How a client stands for what was done with it.
-use Rattle.std.specs.Prelude.{◌≡◌, ℕ, map, List, Option, Some}
+use Rattle.std.specs.Prelude.{◌≡◌, map, List, Option, Some}
 use Rattle.rig_io.specs.Link.{Piece}
 use Rattle.schema_numbers.specs.Numbers.{Numbers}
 use Rattle.h2_exchange.specs.declared.role.Role.TheVariants.{Client}

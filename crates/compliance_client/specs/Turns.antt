@@ -22,7 +22,7 @@ use Rattle.compliance_client.specs.declared.over.ClientTurn.{ClientTurn}
 use Rattle.compliance_client.specs.declared.over.ClientTurn.TheVariants as turn
 use Rattle.compliance_client.specs.declared.hearing.NextHeard.{NextHeard}
 use Rattle.compliance_client.specs.declared.hearing.NextHeard.TheVariants as next
-use Rattle.compliance_client.specs.Deeds.{CallView, Deed, Sends, Hears, Judges}
+use Rattle.compliance_client.specs.Deeds.{CallView, Deed, Hears}
 use Rattle.compliance_client.specs.Standing.{Past, StandsAs}
 
 -- a piece that was read, if any byte was

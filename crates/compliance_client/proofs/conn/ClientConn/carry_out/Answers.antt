@@ -1,11 +1,10 @@
-use Rattle.std.proofs.Common.{◌≡◌, ◌∷◌, [], false, true, Ok, Err, Some, None, refl, sym, ap, subst, ◌∙◌}
+use Rattle.std.proofs.Common.{◌≡◌, ◌∷◌, [], Ok, Err, refl, sym, ap, subst, ◌∙◌}
 use Rattle.grpc_heads.specs.declared.head.Method.TheVariants as method
 use Rattle.grpc_heads.specs.CallEnd.{HalfClose}
 use Rattle.h2_exchange.specs.StreamParts.{Message, Finish}
 use Rattle.h2_exchange.specs.declared.fault.SendFault.TheVariants as fault
 use Rattle.http_connection.specs.Sends.{SendsWhere}
 use Rattle.grpc_stream.specs.CallTrace.{Keeps}
-use Rattle.line_requests.specs.declared.ask.LineAsk.{LineAsk}
 use Rattle.line_requests.specs.declared.ask.LineAsk.TheVariants as asks
 use Rattle.compliance_client.specs.declared.conn.ClientConn.{ClientConn}
 use Rattle.compliance_client.specs.Deeds.{call_name, call_of, is_named}

@@ -1,4 +1,4 @@
-use Rattle.std.proofs.Common.{◌∷◌, [], ◌++◌, Some, refl, sym, ap, subst, ◌∙◌, false}
+use Rattle.std.proofs.Common.{[], Some, refl, sym, ap, subst, ◌∙◌, false}
 use Rattle.h2_exchange.specs.Calls as call
 use Rattle.h2_exchange.specs.Stops.{Error, Calm}
 use Rattle.grpc_stream.specs.declared.event.CallEvent.TheVariants as says

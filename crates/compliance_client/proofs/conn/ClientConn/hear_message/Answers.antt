@@ -1,4 +1,4 @@
-use Rattle.std.proofs.Common.{true, ◌≡◌, sym, ap, ◌∙◌, subst}
+use Rattle.std.proofs.Common.{sym, ap, ◌∙◌}
 use Rattle.std.specs.Prelude.{is_some}
 use Rattle.h2_exchange.specs.Calls as answer
 use Rattle.compliance_client.specs.Deeds.{fault_in, hears_message, is_on, is_refused_by, tally_by, tally_message}

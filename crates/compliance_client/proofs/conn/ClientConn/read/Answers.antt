@@ -1,9 +1,8 @@
-use Rattle.std.proofs.Common.{[], ◌∷◌, ◌++◌, ℕ, None, Some, ◌∙◌, ◌<◌, ap, arith, length, length-take, refl, replicate, subst, take, true, ◌≡◌, ◌↔◌, Bool}
+use Rattle.std.proofs.Common.{[], ◌++◌, ℕ, None, Some, ◌∙◌, ◌<◌, ap, arith, length, length-take, replicate, subst, take, Bool}
 use Rattle.std.specs.Option.{option_map}
 use Rattle.std.proofs.lemmas.List.{length-replicate}
-use Rattle.rig_io.specs.Link as link
 use Rattle.compliance_client.specs.declared.over.ClientOver.TheVariants as over
-use Rattle.compliance_client.specs.Turns.{Turned, got, over_of}
+use Rattle.compliance_client.specs.Turns.{Turned, over_of}
 use Rattle.compliance_client.proofs.Moving.{turned_of, works_still}
 use Rattle.compliance_client.proofs.Putting.{false_true, got_some, short_read, told_none}
 use Rattle.compliance_client.proofs.Results.{ok_map}
