@@ -9,6 +9,9 @@
 ghost use Rattle.table_model.specs.declared.command.Config.{Config};
 ghost use Rattle.halt_laws.specs.Settled.{HaltedTablesSettle, HaltedTablesAgree};
 
+mod examples;
+
+pub use examples::{a_leave_behind_the_halt_makes_jobs, two_workers_see_the_halt};
 use table_laws::fib_is_rib_without_faults;
 
 /// Once a Take of each worker was answered that the Halt is through, no job is undone, whatever comes next but the end of
