@@ -1,4 +1,4 @@
-#!/usr/bin/env python3
+#!/usr/bin/python3
 """Drives `gribi serve` with clients of other makers. See README.md beside this file."""
 import os
 import shutil
